@@ -1,1 +1,1 @@
-pub mod Joins
+pub mod Changing

@@ -1,2 +1,4 @@
-pub mod Joined
-pub mod Spots
+pub mod Held
+pub mod Nodes
+pub mod Falls
+pub mod Changes

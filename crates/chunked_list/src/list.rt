@@ -1,32 +1,32 @@
 // The list and its calls.
-#![tactic(auto, using(crate::proofs::Joins::join_steps))]
-
 ghost use Rattle.std.specs.Prelude.{◌≡◌, ◌<◌, ◌≤◌, [], length, slice_index_or, IfOk, OnOk, OnErr};
-ghost use Rattle.std.specs.List.{insert};
+ghost use Rattle.std.specs.List.{insert, remove};
 
-use crate::chunks::{spot_of, with_room};
+use crate::changes::Change;
+use crate::forks::single;
+use crate::tree::Tree;
 use std::alloc::{AllocError, Global};
 use std::marker::Model;
 
-/// Numbers in an order that is the caller's, in chunks.
+/// Numbers in an order that is the caller's, in a balanced tree of chunks that copies share.
 ///
-/// Of n numbers one is found by passing n / 1,024 chunks at most, and one more is inserted by
-/// moving 2,048 numbers at most, and the chunks behind where a full one is parted.
+/// To find one of n numbers, to insert one and to remove one takes some log n steps, and a copy
+/// takes one.
 #[derive(Debug, Drop)]
 pub struct ChunkedList {
-    pub(crate) chunks: Vec<Vec<usize>>,
+    pub(crate) root: Option<Tree>,
 }
 
 impl Model for ChunkedList {
     ghost use Rattle.std.specs.Prelude.{ℕ, List};
     ghost use Rattle.std.specs.Coded.{coded_list, coded_ℕ};
-    ghost use Rattle.chunked_list.specs.Joined.{joined};
+    ghost use Rattle.chunked_list.specs.Nodes.{listed};
 
     ghost Value = { List ℕ };
 
     ghost coded = { coded_list coded_ℕ };
 
-    ghost view = { λ a. joined a.chunks.items };
+    ghost view = { λ a. listed a.root };
 }
 
 impl ChunkedList {
@@ -34,9 +34,7 @@ impl ChunkedList {
     pub fn new(alloc: Global) -> ChunkedList
         ensures { result ≡ [] }
     {
-        ChunkedList {
-            chunks: Vec::new(alloc),
-        }
+        ChunkedList { root: None }
     }
 
     /// The number at a place of the list, counted from 0.
@@ -44,14 +42,10 @@ impl ChunkedList {
         requires { place < length self.now }
         ensures { result ≡ slice_index_or self.now place 0 }
     {
-        let mut left = place;
-        for chunk in &self.chunks {
-            if left < chunk.len() {
-                return chunk[left];
-            }
-            left -= chunk.len();
+        match &self.root {
+            Some(tree) => tree.at(place),
+            None => unreachable!(),
         }
-        unreachable!()
     }
 
     /// Inserts a number before the one at the place, or behind all. It fails only for want of
@@ -61,19 +55,44 @@ impl ChunkedList {
         ensures inserted { OnOk result (self.new ≡ insert self.old place number) }
         ensures stays { OnErr result (self.new ≡ self.old) }
     {
-        let spot = with_room(alloc, &mut self.chunks, place)?;
-        self.chunks[spot.chunk].insert(spot.offset, number)?;
-        Ok(())
+        match &mut self.root {
+            Some(tree) => tree.change(alloc, place, Change::Insert(number)),
+            None => {
+                self.root = Some(single(alloc, number)?);
+                Ok(())
+            }
+        }
     }
 
-    /// The same numbers in a list of its own: one step for each. It fails only for want of memory.
+    /// Takes the number at a place out. It fails only for want of memory, and then all stays as it
+    /// was.
+    pub fn remove(&mut self, alloc: Global, place: usize) -> Result<(), AllocError>
+        requires { place < length self.old }
+        ensures removed { OnOk result (self.new ≡ remove self.old place) }
+        ensures stays { OnErr result (self.new ≡ self.old) }
+    {
+        match &mut self.root {
+            Some(tree) => {
+                tree.change(alloc, place, Change::Remove)?;
+                if tree.is_empty() {
+                    self.root = None;
+                }
+                Ok(())
+            }
+            None => unreachable!(),
+        }
+    }
+
+    /// The same numbers in a list of its own, in one step and with no memory: the two share their
+    /// nodes. It fails only where 2^63 lists share them.
     pub fn copy(&self, alloc: Global) -> Result<ChunkedList, AllocError>
         ensures { IfOk result (λ copied. copied ≡ self.now) }
     {
-        let mut chunks = Vec::with_capacity(alloc, self.chunks.len())?;
-        for chunk in &self.chunks {
-            chunks.push(Vec::from_slice(alloc, chunk)?)?;
+        match &self.root {
+            Some(tree) => Ok(ChunkedList {
+                root: Some(tree.copy()?),
+            }),
+            None => Ok(ChunkedList { root: None }),
         }
-        Ok(ChunkedList { chunks })
     }
 }

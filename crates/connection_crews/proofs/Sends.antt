@@ -19,6 +19,7 @@ use Rattle.std.specs.contracts.sync.ArcStr as text
 use Rattle.std.specs.contracts.option.Option as option
 use Rattle.std.specs.contracts.string.String as string
 use Rattle.value_data.proofs.value.Sequence.TheLaws.TheKnot as knot
+use Rattle.chunked_list.proofs.tree.Tree.TheLaws.TheKnot as lists
 use Rattle.bencode_wire.proofs.ben.Ben.TheLaws.TheKnot as bens
 use Rattle.bytes.proofs.Crosses as blocks
 use Rattle.bytes.specs.contracts.block.Seen as seen
@@ -132,7 +133,7 @@ use mir.Syntax.{Ty}
 use mathlib.Core.List.{List, [], ◌∷◌}
 use Prim.Native.Nat.{ℕ}
 
-ruleset all = (sendable, crosses, maps.crosses, knot.crosses)
+ruleset all = (sendable, crosses, maps.crosses, knot.crosses, lists.crosses)
 
 -- of the channel
 ruleset queued = (

@@ -1,5 +1,5 @@
 -- Values as their data.
-use Rattle.std.proofs.Common.{◌≡◌, ℕ, ℤ, zero, suc, ◌+◌, ◌<◌, ◌≤◌, List, [], ◌∷◌, ◌++◌, get_or, set, take, drop, length, map, option_map, slice_get, add-one, Result, Ok, Err, refl, ap, arith}
+use Rattle.std.proofs.Common.{◌≡◌, ℤ, ◌<◌, ◌≤◌, List, [], ◌∷◌, ◌++◌, get_or, drop, length, map, option_map, slice_get, Result, Ok, Err, refl, arith}
 use Rattle.value_data.specs.Datum.{Datum}
 use Rattle.value_data.specs.Inside.View.{view}
 use Rattle.value_data.specs.declared.value.Value.{Value}
@@ -7,23 +7,6 @@ use Rattle.value_data.proofs.Views.{value_views}
 use Rattle.repl_values.specs.Failure.{Failure}
 use Rattle.core_items.proofs.Lists.{lists}
 use Rattle.core_collections.specs.MapArguments.{by_turns, left_alone}
-
-pub take-put-drop : (xs : List Value) (n : ℕ) (w : Value) → n < length xs
-    → map view (set xs n w) ≡ take n (map view xs) ++ view w ∷ drop (n + 1) (map view xs)
-take-put-drop xs n w n< = rw add-one (by-index xs n n<)
-  where
-    by-index : (ys : List Value) (m : ℕ) → m < length ys → map view (set ys m w) ≡ take m (map view ys) ++ view w ∷ drop (suc m) (map view ys)
-    by-index [] m m< = absurd (omega (arith, m<))
-    by-index (y ∷ ys) zero m< = refl
-    by-index (y ∷ ys) (suc m) m< = ap (λ (ds : List Datum). view y ∷ ds) (by-index ys m (omega (arith, m<)))
-
-pub take-put-end : (xs : List Value) (n : ℕ) (w : Value) → n ≡ length xs
-    → map view (xs ++ w ∷ []) ≡ take n (map view xs) ++ view w ∷ drop (n + 1) (map view xs)
-take-put-end xs n w at = rw (add-one, at) (all xs)
-  where
-    all : (ys : List Value) → map view (ys ++ w ∷ []) ≡ take (length ys) (map view ys) ++ view w ∷ drop (suc (length ys)) (map view ys)
-    all [] = refl
-    all (y ∷ ys) = ap (λ (ds : List Datum). view y ∷ ds) (all ys)
 
 -- two arguments more
 pub by_turns-step : (xs : List Value) (x y : Value) → 2 ≤ length xs → x ≡ get_or xs 0 x → y ≡ get_or xs 1 y
@@ -53,4 +36,4 @@ abbrev pub with_front : List (ℤ × Datum) → Result (List (ℤ × Datum)) Fai
 with_front front (Ok ps) = Ok (front ++ ps)
 with_front front (Err f) = Err f
 
-pub ruleset seen = (value_views, lists, take-put-drop, take-put-end, by_turns-step, left_alone-step, by_turns-short, left_alone-short)
+pub ruleset seen = (value_views, lists, by_turns-step, left_alone-step, by_turns-short, left_alone-short)

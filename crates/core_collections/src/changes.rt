@@ -1,8 +1,8 @@
 // Maps and vectors with more put in or keys taken out.
 #![tactic(auto, using(crate::proofs::MapValues::seen))]
 
-ghost use Rattle.std.specs.Prelude.{◌≡◌, ◌≤◌, ◌+◌, ◌∷◌, ◌++◌, map, take, drop, vec_len, length};
-ghost use Rattle.std.specs.Prelude.{IfOk, IfSome};
+ghost use Rattle.std.specs.Prelude.{◌≡◌, ◌≤◌, map, length, IfSome};
+ghost use Rattle.value_data.specs.Listed.{listed};
 ghost use Rattle.value_data.specs.Inside.View.{view};
 ghost use Rattle.repl_values.specs.Inside.FaultView.{Gives};
 ghost use Rattle.value_data.specs.Inside.Seen.{entry_view};
@@ -12,9 +12,8 @@ ghost use Rattle.core_collections.specs.MapMeaning as meant;
 use crate::arguments::places_of;
 use crate::making::table_of;
 use crate::map_function::MapFunction;
-use core_items::vector_of;
-use repl_values::{ApplyError, Value, copy, copy_items, out_of_bounds, wrong_argument};
-use std::alloc::{AllocError, Global};
+use repl_values::{ApplyError, Sequence, Value, copy, out_of_bounds, wrong_argument};
+use std::alloc::Global;
 
 #[tactic(auto, using(crate::proofs::MapValues::seen), unfolding(crate::specs::MapMeaning::assoc))]
 pub(crate) fn assoc<'a>(
@@ -28,8 +27,8 @@ pub(crate) fn assoc<'a>(
     match collection {
         Value::Vector(items) => {
             let places = places_of(alloc, name, more)?;
-            let all = with_items(alloc, items.as_slice(), places.as_slice())?;
-            Ok(vector_of(alloc, all)?)
+            let all = with_items(alloc, items.copy()?, places.as_slice())?;
+            Ok(Value::Vector(all))
         }
         other => {
             let pairs = table_of(alloc, name, other)?;
@@ -52,20 +51,20 @@ pub(crate) fn dissoc(alloc: Global, collection: &Value, keys: &[Value]) -> Resul
     }
 }
 
-// The items with more put in, one after another.
+// The items with more put in, one after another. All that stays as it was is shared.
 fn with_items(
     alloc: Global,
-    items: &[Value],
+    items: Sequence,
     places: &[(i64, &Value)],
-) -> Result<Vec<Value>, ApplyError>
-    ensures { Gives (λ all. map view all.items) result
-        (meant.with_items (map indexed_view places.now) (map view items.now)) }
+) -> Result<Sequence, ApplyError>
+    ensures { Gives (λ all. listed all.items) result
+        (meant.with_items (map indexed_view places.now) (listed items.items)) }
 {
-    let mut all = copy_items(alloc, items)?;
+    let mut items = items;
     for (index, value) in places {
-        all = put_at(alloc, all, *index, value)?;
+        items = put_at(alloc, items, *index, value)?;
     }
-    Ok(all)
+    Ok(items)
 }
 
 // The index as a place from 0 to the count.
@@ -80,33 +79,13 @@ fn place_within(index: i64, count: usize) -> Option<usize>
     if place <= count { Some(place) } else { None }
 }
 
-fn put_at(
-    alloc: Global,
-    all: Vec<Value>,
-    index: i64,
-    value: &Value,
-) -> Result<Vec<Value>, ApplyError>
-    ensures { Gives (λ put. map view put.items) result
-        (meant.put_at (meant.place_within index (vec_len all)) (view value.now)
-        (map view all.items)) }
+fn put_at(alloc: Global, items: Sequence, index: i64, value: &Value) -> Result<Sequence, ApplyError>
+    ensures { Gives (λ put. listed put.items) result
+        (meant.put_at (meant.place_within index (length (listed items.items))) (view value.now)
+        (listed items.items)) }
 {
-    match place_within(index, all.len()) {
-        Some(place) => Ok(with_value_at(all, place, copy(value)?)?),
+    match place_within(index, items.len()) {
+        Some(place) => Ok(items.with_item(alloc, place, copy(value)?)?),
         None => Err(ApplyError::Fault(out_of_bounds(alloc)?)),
-    }
-}
-
-// Puts the value at the place, in place of what stood there.
-fn with_value_at(mut all: Vec<Value>, place: usize, value: Value) -> Result<Vec<Value>, AllocError>
-    requires { place ≤ vec_len all }
-    ensures { IfOk result (λ put. map view put.items
-        ≡ take place (map view all.items) ++ view value ∷ drop (place + 1) (map view all.items)) }
-{
-    if place < all.len() {
-        all[place] = value;
-        Ok(all)
-    } else {
-        all.push(value)?;
-        Ok(all)
     }
 }

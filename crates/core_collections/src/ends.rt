@@ -47,19 +47,13 @@ pub(crate) fn next(alloc: Global, argument: &Value) -> Result<Value, ApplyError>
     Ok(Value::List(items))
 }
 
-// The items behind the first. Those of a list or a vector are shared, where that holds little more.
+// The items behind the first. Those of a list or a vector are shared with it.
 fn behind_first(alloc: Global, function: &str, argument: &Value) -> Result<Sequence, ApplyError>
     ensures { Gives (λ made. listed made.items) result
         (meant.items_but_first function.now (view argument.now)) }
 {
-    match argument {
-        Value::List(items) => Ok(items.rest(alloc)?),
-        Value::Vector(items) => Ok(items.rest(alloc)?),
-        other => {
-            let row = ItemRow::of(alloc, function, other)?;
-            Ok(Sequence::from_vec(alloc, row.rest().copies(alloc)?)?)
-        }
-    }
+    let row = ItemRow::of(alloc, function, argument)?;
+    Ok(row.sequence(alloc)?.rest(alloc)?)
 }
 
 #[tactic(auto, using(crate::proofs::SequenceValues::seen), unfolding(crate::specs::SequenceMeaning::reversed_list))]

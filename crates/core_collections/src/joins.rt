@@ -5,13 +5,13 @@ ghost use Rattle.std.specs.Prelude.{◌≡◌, ◌++◌, ◌∷◌, [], map, opt
 ghost use Rattle.value_data.specs.Datum.{vector};
 ghost use Rattle.value_data.specs.Listed.{listed};
 ghost use Rattle.value_data.specs.Inside.Seen.{entry_view};
-ghost use Rattle.value_data.specs.Inside.View.{view, items_view};
+ghost use Rattle.value_data.specs.Inside.View.{view};
 ghost use Rattle.repl_values.specs.Inside.FaultView.{Gives};
 ghost use Rattle.core_collections.specs.Pairs.{as_pair, pair_in, pairs_in};
 ghost use Rattle.core_collections.specs.SequenceMeaning as meant;
 
 use crate::sequence_function::SequenceFunction;
-use core_items::{ItemRow, list_of, list_or_nil};
+use core_items::{ItemRow, list_or_nil};
 use repl_values::{ApplyError, Sequence, Value, copy, copy_items, wrong_argument};
 use std::alloc::{AllocError, Global};
 
@@ -19,17 +19,9 @@ use std::alloc::{AllocError, Global};
 pub(crate) fn cons(alloc: Global, first: &Value, rest: &Value) -> Result<Value, ApplyError>
     ensures { Gives view result (meant.cons (view first.now) (view rest.now)) }
 {
-    match rest {
-        Value::List(items) => Ok(Value::List(items.with_first(alloc, copy(first)?)?)),
-        Value::Vector(items) => Ok(Value::List(items.with_first(alloc, copy(first)?)?)),
-        other => {
-            let row = ItemRow::of(alloc, SequenceFunction::Cons.name(), other)?;
-            let mut items = Vec::with_capacity(alloc, 1)?;
-            items.push(copy(first)?)?;
-            items.append(&mut row.copies(alloc)?)?;
-            Ok(list_of(alloc, items)?)
-        }
-    }
+    let row = ItemRow::of(alloc, SequenceFunction::Cons.name(), rest)?;
+    let items = row.sequence(alloc)?;
+    Ok(Value::List(items.with_first(alloc, copy(first)?)?))
 }
 
 #[tactic(auto, using(crate::proofs::SequenceValues::seen), unfolding(crate::specs::SequenceMeaning::conj))]
@@ -38,11 +30,8 @@ pub(crate) fn conj(alloc: Global, collection: &Value, more: &[Value]) -> Result<
 {
     match collection {
         Value::Nil => Ok(list_or_nil(alloc, reversed_copies(alloc, more)?)?),
-        Value::List(items) => {
-            let all = with_copies(reversed_copies(alloc, more)?, items.as_slice())?;
-            Ok(list_of(alloc, all)?)
-        }
-        Value::Vector(items) => Ok(Value::Vector(with_all(alloc, items.copy()?, more)?)),
+        Value::List(items) => Ok(Value::List(with_more_in_front(alloc, items.copy()?, more)?)),
+        Value::Vector(items) => Ok(Value::Vector(with_more_behind(alloc, items.copy()?, more)?)),
         Value::Map(pairs) => {
             let more = pairs_of(alloc, SequenceFunction::Conj.name(), more)?;
             Ok(Value::Map(pairs.copy()?.with_pairs(alloc, more.as_slice())?))
@@ -54,9 +43,24 @@ pub(crate) fn conj(alloc: Global, collection: &Value, more: &[Value]) -> Result<
     }
 }
 
-// The items with more behind them, one after another. The first that is put in copies them, since
-// the collection holds them too; the others stand in their place.
-fn with_all(alloc: Global, items: Sequence, more: &[Value]) -> Result<Sequence, AllocError>
+// The items with more in front of them, put there one after another.
+fn with_more_in_front(
+    alloc: Global,
+    items: Sequence,
+    more: &[Value],
+) -> Result<Sequence, AllocError>
+    ensures { IfOk result (λ all. listed all.items
+        ≡ reverse (map view more.now) ++ listed items.items) }
+{
+    let mut items = items;
+    for value in more {
+        items = items.with_first(alloc, copy(value)?)?;
+    }
+    Ok(items)
+}
+
+// The items with more behind them, put there one after another.
+fn with_more_behind(alloc: Global, items: Sequence, more: &[Value]) -> Result<Sequence, AllocError>
     ensures { IfOk result (λ all. listed all.items ≡ listed items.items ++ map view more.now) }
 {
     let mut items = items;
@@ -79,16 +83,6 @@ fn reversed_copies(alloc: Global, values: &[Value]) -> Result<Vec<Value>, AllocE
     let mut copies = copy_items(alloc, values)?;
     copies.reverse();
     Ok(copies)
-}
-
-// The items, with copies of more behind them.
-fn with_copies(mut items: Vec<Value>, more: &[Value]) -> Result<Vec<Value>, AllocError>
-    ensures { IfOk result (λ all. map view all.items ≡ map view items.items ++ map view more.now) }
-{
-    for value in more {
-        items.push(copy(value)?)?;
-    }
-    Ok(items)
 }
 
 // What is put into a map: vectors of two, each as its key and its value.
@@ -125,16 +119,16 @@ fn as_pair(argument: &Value) -> Option<(&Value, &Value)>
     ensures { option_map entry_view result ≡ as_pair (view argument.now) }
 {
     match argument {
-        Value::Vector(items) => two_of(items.as_slice()),
+        Value::Vector(items) => two_of(items),
         _other => None,
     }
 }
 
-fn two_of(items: &[Value]) -> Option<(&Value, &Value)>
-    ensures { option_map entry_view result ≡ as_pair (vector (items_view items.now)) }
+fn two_of(items: &Sequence) -> Option<(&Value, &Value)>
+    ensures { option_map entry_view result ≡ as_pair (vector items.now.items) }
 {
     if items.len() == 2 {
-        Some((&items[0], &items[1]))
+        Some((items.at(0), items.at(1)))
     } else {
         None
     }

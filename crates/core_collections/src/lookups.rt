@@ -2,13 +2,13 @@
 #![tactic(auto, using(crate::proofs::MapValues::seen))]
 
 ghost use Rattle.std.specs.Prelude.{◌≡◌, option_map};
-ghost use Rattle.value_data.specs.Inside.View.{view, items_view};
+ghost use Rattle.value_data.specs.Inside.View.{view};
 ghost use Rattle.repl_values.specs.Inside.FaultView.{Gives};
 ghost use Rattle.core_collections.specs.MapMeaning as meant;
 
 use crate::map_function::MapFunction;
 use core_items::at_index;
-use repl_values::{ApplyError, Value, copy, wrong_argument};
+use repl_values::{ApplyError, Sequence, Value, copy, wrong_argument};
 use std::alloc::Global;
 
 #[tactic(auto, using(crate::proofs::MapValues::seen), unfolding(crate::specs::MapMeaning::get))]
@@ -34,7 +34,7 @@ fn found_in<'a>(collection: &'a Value, key: &Value) -> Option<&'a Value>
 {
     match collection {
         Value::Map(pairs) => pairs.get(key),
-        Value::Vector(items) => item_at(items.as_slice(), key),
+        Value::Vector(items) => item_at(items, key),
         _other => None,
     }
 }
@@ -46,7 +46,7 @@ pub(crate) fn contains(alloc: Global, collection: &Value, key: &Value) -> Result
     match collection {
         Value::Nil => Ok(Value::Bool(false)),
         Value::Map(pairs) => Ok(Value::Bool(pairs.contains(key))),
-        Value::Vector(items) => Ok(Value::Bool(item_at(items.as_slice(), key).is_some())),
+        Value::Vector(items) => Ok(Value::Bool(item_at(items, key).is_some())),
         other => {
             let name = MapFunction::Contains.name();
             Err(ApplyError::Fault(wrong_argument(alloc, name, other)?))
@@ -54,9 +54,9 @@ pub(crate) fn contains(alloc: Global, collection: &Value, key: &Value) -> Result
     }
 }
 
-fn item_at<'a>(items: &'a [Value], index: &Value) -> Option<&'a Value>
+fn item_at<'a>(items: &'a Sequence, index: &Value) -> Option<&'a Value>
     ensures { option_map (λ v. view v.now) result
-        ≡ meant.item_at (view index.now) (items_view items.now) }
+        ≡ meant.item_at (view index.now) items.now.items }
 {
     match index {
         Value::Int(n) => at_index(items, *n),

@@ -4,11 +4,13 @@
 ghost use Rattle.std.specs.Prelude.{◌≡◌, ◌<◌, ◌^◌, length, option_map, chars, IfOk};
 ghost use Rattle.value_data.specs.Inside.View.{view};
 ghost use Rattle.repl_values.specs.Inside.FaultView.{Gives};
+ghost use Rattle.core_items.specs.Arguments.{at_index};
+ghost use Rattle.core_items.specs.Inside.View.{listed_in};
 ghost use Rattle.core_collections.specs.SequenceMeaning as meant;
 
 use crate::sequence_function::SequenceFunction;
 use core_items::{ItemRow, at_index, integer_of, row_of};
-use repl_values::{ApplyError, Value, copy, out_of_bounds};
+use repl_values::{ApplyError, Sequence, Value, copy, out_of_bounds};
 use std::alloc::Global;
 
 #[tactic(auto, using(crate::proofs::SequenceValues::seen), unfolding(crate::specs::SequenceMeaning::count))]
@@ -61,8 +63,18 @@ pub(crate) fn nth(
     let name = SequenceFunction::Nth.name();
     let row = row_of(alloc, name, collection)?;
     let index = integer_of(alloc, name, index)?;
-    let found = at_index(row, index);
+    let found = found_at(row, index);
     found_or(alloc, found, otherwise, collection)
+}
+
+// The item at the index of a list or a vector. Nil has none.
+fn found_at(row: Option<&Sequence>, index: i64) -> Option<&Value>
+    ensures { option_map (λ v. view v.now) result ≡ at_index index (listed_in row.entry) }
+{
+    match row {
+        Some(items) => at_index(items, index),
+        None => None,
+    }
 }
 
 fn found_or(

@@ -1,6 +1,6 @@
 -- Values as their data.
-use Rattle.std.proofs.Common.{◌≡◌, ℕ, zero, suc, ◌<◌, ◌≤◌, List, [], ◌∷◌, get_or, length, refl, sym, ap, arith}
-use Rattle.value_data.specs.Datum.{nil}
+use Rattle.std.proofs.Common.{◌≡◌, ℕ, zero, suc, ◌<◌, ◌≤◌, List, [], ◌∷◌, None, slice_get, get_or, length, refl, sym, ap, arith}
+use Rattle.value_data.specs.Datum.{Datum, nil}
 use Rattle.value_data.specs.Inside.View.{view, pair_view}
 use Rattle.value_data.specs.declared.value.Value.{Value}
 use Rattle.value_data.specs.Listed.{vector_of_two}
@@ -19,4 +19,10 @@ pair_vectors-past [] i past = refl
 pair_vectors-past (q ∷ ps) zero past = absurd (omega (arith, past))
 pair_vectors-past (q ∷ ps) (suc i) past = pair_vectors-past ps i (omega (arith, past))
 
-pub ruleset seen = (value_views, lists, pair_vectors-at, pair_vectors-past)
+-- nil where there is no item
+pub item_or_nil-none : (ds : List Datum) (i : ℕ) → slice_get ds i ≡ None → get_or ds i nil ≡ nil
+item_or_nil-none [] i none = refl
+item_or_nil-none (d ∷ ds) zero none = cc
+item_or_nil-none (d ∷ ds) (suc i) none = item_or_nil-none ds i none
+
+pub ruleset seen = (value_views, lists, pair_vectors-at, pair_vectors-past, item_or_nil-none)

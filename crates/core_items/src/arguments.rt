@@ -1,13 +1,15 @@
 // Arguments of one kind, and an item by its index.
 #![tactic(auto, using(crate::proofs::Values::seen))]
 
-ghost use Rattle.std.specs.Prelude.{◌≡◌, map, option_map};
+ghost use Rattle.std.specs.Prelude.{◌≡◌, option_map};
+ghost use Rattle.value_data.specs.Listed.{listed};
 ghost use Rattle.value_data.specs.Inside.View.{view};
 ghost use Rattle.repl_values.specs.Inside.FaultView.{Gives};
 ghost use Rattle.core_items.specs.Items.{row_in};
 ghost use Rattle.core_items.specs.Arguments as meant;
+ghost use Rattle.core_items.specs.Inside.View.{listed_in};
 
-use repl_values::{ApplyError, Value, wrong_argument};
+use repl_values::{ApplyError, Sequence, Value, wrong_argument};
 use std::alloc::Global;
 
 /// The integer that an argument of the function of this name is.
@@ -20,25 +22,25 @@ pub fn integer_of(alloc: Global, function: &str, argument: &Value) -> Result<i64
     }
 }
 
-/// The items of an argument that is reached by index: a list, a vector or nil.
+/// The items of an argument that is reached by index: a list, a vector or nil, which has none.
 pub fn row_of<'a>(
     alloc: Global,
     function: &str,
     argument: &'a Value,
-) -> Result<&'a [Value], ApplyError>
-    ensures { Gives (λ row. map view row.now) result (row_in function.now (view argument.now)) }
+) -> Result<Option<&'a Sequence>, ApplyError>
+    ensures { Gives listed_in result (row_in function.now (view argument.now)) }
 {
     match argument {
-        Value::Nil => Ok(&[]),
-        Value::List(items) => Ok(items.as_slice()),
-        Value::Vector(items) => Ok(items.as_slice()),
+        Value::Nil => Ok(None),
+        Value::List(items) => Ok(Some(items)),
+        Value::Vector(items) => Ok(Some(items)),
         other => Err(ApplyError::Fault(wrong_argument(alloc, function, other)?)),
     }
 }
 
 /// The item at an index from 0 to below the count. It takes no memory.
-pub fn at_index(items: &[Value], index: i64) -> Option<&Value>
-    ensures { option_map (λ v. view v.now) result ≡ meant.at_index index (map view items.now) }
+pub fn at_index(items: &Sequence, index: i64) -> Option<&Value>
+    ensures { option_map (λ v. view v.now) result ≡ meant.at_index index (listed items.now.items) }
 {
     if index < 0 {
         return None;

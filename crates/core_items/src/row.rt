@@ -1,20 +1,22 @@
 // The items of a value, without copying them.
 #![tactic(auto, using(crate::proofs::Values::seen))]
 
-ghost use Rattle.std.specs.Prelude.{◌≡◌, ◌<◌, ◌^◌, length, drop, map, IfOk};
+ghost use Rattle.std.specs.Prelude.{◌≡◌, ◌<◌, ◌^◌, length, map, IfOk};
+ghost use Rattle.value_data.specs.Listed.{listed};
 ghost use Rattle.value_data.specs.Inside.View.{view};
 ghost use Rattle.repl_values.specs.Inside.FaultView.{Gives};
 ghost use Rattle.core_items.specs.Items.{items_in};
 ghost use Rattle.core_items.specs.Arguments.{item_or_nil};
 ghost use Rattle.core_items.specs.Inside.View.{row_view, pair_vectors};
 
-use repl_values::{ApplyError, Value, copy, copy_items, pair_as_vector, wrong_argument};
+use repl_values::{ApplyError, Sequence, Value, copy, pair_as_vector, wrong_argument};
 use std::alloc::{AllocError, Global};
 
-/// Where the items stand: as values, or as a map's pairs.
+/// Where the items stand: nowhere, in a list or a vector, or as a map's pairs.
 #[derive(Clone, Copy)]
 pub enum ItemRow<'a> {
-    Values(&'a [Value]),
+    NoItems,
+    Items(&'a Sequence),
     Pairs(&'a [(Value, Value)]),
 }
 
@@ -25,9 +27,9 @@ impl<'a> ItemRow<'a> {
         ensures { Gives row_view result (items_in function.now (view argument.now)) }
     {
         match argument {
-            Value::Nil => Ok(ItemRow::Values(&[])),
-            Value::List(items) => Ok(ItemRow::Values(items.as_slice())),
-            Value::Vector(items) => Ok(ItemRow::Values(items.as_slice())),
+            Value::Nil => Ok(ItemRow::NoItems),
+            Value::List(items) => Ok(ItemRow::Items(items)),
+            Value::Vector(items) => Ok(ItemRow::Items(items)),
             Value::Map(pairs) => Ok(ItemRow::Pairs(pairs.as_slice())),
             other => Err(ApplyError::Fault(wrong_argument(alloc, function, other)?)),
         }
@@ -39,19 +41,9 @@ impl<'a> ItemRow<'a> {
         ensures bound { result < 2 ^ 63 }
     {
         match self {
-            ItemRow::Values(values) => values.len(),
+            ItemRow::NoItems => 0,
+            ItemRow::Items(items) => items.len(),
             ItemRow::Pairs(pairs) => pairs.len(),
-        }
-    }
-
-    /// What stands behind the first item.
-    pub fn rest(self) -> ItemRow<'a>
-        ensures { row_view result ≡ drop 1 (row_view self.entry) }
-    {
-        match self {
-            ItemRow::Values([_, rest @ ..]) => ItemRow::Values(rest),
-            ItemRow::Pairs([_, rest @ ..]) => ItemRow::Pairs(rest),
-            none => none,
         }
     }
 
@@ -60,7 +52,8 @@ impl<'a> ItemRow<'a> {
         ensures { IfOk result (λ item. view item ≡ item_or_nil place (row_view self.entry)) }
     {
         match self {
-            ItemRow::Values(values) => match values.get(place) {
+            ItemRow::NoItems => Ok(Value::Nil),
+            ItemRow::Items(items) => match items.get(place) {
                 Some(value) => copy(value),
                 None => Ok(Value::Nil),
             },
@@ -76,8 +69,21 @@ impl<'a> ItemRow<'a> {
         ensures { IfOk result (λ copies. map view copies.items ≡ row_view self.entry) }
     {
         match self {
-            ItemRow::Values(values) => copy_items(alloc, values),
+            ItemRow::NoItems => Ok(Vec::new(alloc)),
+            ItemRow::Items(items) => items.copies(alloc),
             ItemRow::Pairs(pairs) => copy_pairs(alloc, pairs),
+        }
+    }
+
+    /// All items as a sequence. Those of a list or a vector are shared, in one step. It fails only
+    /// for want of memory.
+    pub fn sequence(self, alloc: Global) -> Result<Sequence, AllocError>
+        ensures { IfOk result (λ made. listed made.items ≡ row_view self.entry) }
+    {
+        match self {
+            ItemRow::NoItems => Sequence::from_vec(alloc, Vec::new(alloc)),
+            ItemRow::Items(items) => items.copy(),
+            ItemRow::Pairs(pairs) => Sequence::from_vec(alloc, copy_pairs(alloc, pairs)?),
         }
     }
 }

@@ -1,2 +1,4 @@
 pub mod Escapes
 pub mod Inside
+pub mod Joining
+pub mod Places

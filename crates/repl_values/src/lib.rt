@@ -10,7 +10,6 @@ mod fault;
 mod faults;
 pub mod laws;
 mod limits;
-mod plain;
 mod print;
 mod repeats;
 mod rule;
@@ -24,11 +23,10 @@ pub use faults::{
     wrong_argument, wrong_arity,
 };
 pub use limits::{MOST_NESTING, MOST_TEXT, MOST_WEIGHT};
-pub use plain::is_plain;
 pub use print::{display_into, print_into};
 pub use repeats::first_repeated;
 pub use rule::Rule;
 pub use value_data::{
-    Built, Owner, RefName, Sequence, Table, Value, copy, copy_items, copy_text, hash_of, nesting,
-    pair_as_vector, same, weight,
+    Built, Owner, RefName, Sequence, Table, Value, copy, copy_items, copy_text, hash_of, is_plain,
+    nesting, pair_as_vector, same, weight,
 };

@@ -1,9 +1,9 @@
 // The spelling of values, into a text.
-#![tactic(auto, using(value_data::proofs::Nodes::node_steps))]
+#![tactic(auto, using(value_data::proofs::Nodes::node_steps, crate::proofs::Places::place_steps))]
 
 ghost use Rattle.std.specs.Prelude.{◌≡◌, ◌++◌, OnOk, OnErr, string_bytes, codes, decimal};
 ghost use Rattle.std.specs.Prelude.{encode_utf8};
-ghost use Rattle.value_data.specs.Inside.View.{view, items_view, pairs_view, owner_view};
+ghost use Rattle.value_data.specs.Inside.View.{view, pairs_view, owner_view};
 ghost use Rattle.repl_values.specs.Print.{print, display, spelled, texts, pair_texts, joined_by};
 ghost use Rattle.repl_values.specs.Print.{escaped, ref_text};
 ghost use Rattle.std.specs.Fmt.{signed_decimal};
@@ -11,7 +11,7 @@ ghost use Rattle.repl_values.specs.Inside.Style.{spelling_of};
 
 use itoa::Buffer;
 use std::alloc::{AllocError, Global};
-use value_data::{Owner, RefName, Value};
+use value_data::{Owner, RefName, Sequence, Value};
 
 /// How the strings inside a value are spelled.
 #[derive(Clone, Copy)]
@@ -58,12 +58,12 @@ fn spell(value: &Value, strings: Strings, out: &mut String) -> Result<(), AllocE
         Value::Symbol(name) => out.push_str(name.as_str()),
         Value::List(items) => {
             out.push_str("(")?;
-            spell_items(items.as_slice(), strings, out)?;
+            spell_items(items, strings, out)?;
             out.push_str(")")
         }
         Value::Vector(items) => {
             out.push_str("[")?;
-            spell_items(items.as_slice(), strings, out)?;
+            spell_items(items, strings, out)?;
             out.push_str("]")
         }
         Value::Map(pairs) => {
@@ -87,17 +87,17 @@ fn spell(value: &Value, strings: Strings, out: &mut String) -> Result<(), AllocE
 }
 
 #[cycle(spell)]
-fn spell_items(items: &[Value], strings: Strings, out: &mut String) -> Result<(), AllocError>
+fn spell_items(items: &Sequence, strings: Strings, out: &mut String) -> Result<(), AllocError>
     ensures { OnOk result (string_bytes out.new ≡ string_bytes out.old
-        ++ joined_by (codes " ") (texts (spelling_of strings) (items_view items.now))) }
+        ++ joined_by (codes " ") (texts (spelling_of strings) items.now.items)) }
 {
-    let Some((first, rest)) = items.split_first() else {
+    if items.is_empty() {
         return Ok(());
-    };
-    spell(first, strings, out)?;
-    for item in rest {
+    }
+    spell(items.at(0), strings, out)?;
+    for place in 1..items.len() {
         out.push_str(" ")?;
-        spell(item, strings, out)?;
+        spell(items.at(place), strings, out)?;
     }
     Ok(())
 }

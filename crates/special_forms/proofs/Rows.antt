@@ -1,12 +1,8 @@
 -- Forms by their places.
-use denote.Ref.{Bor}
-use Rattle.std.proofs.Common.{◌≡◌, ℕ, zero, suc, ◌*◌, ◌<◌, ◌≤◌, List, [], ◌∷◌, Option, Some, None, MatchOption, option_map, slice_get, get_or, length, take, drop, map, refl, sym, ap, ◌∙◌, arith}
-use Rattle.std.proofs.lemmas.Option.{slice_get-map, slice_get_past, slice_get_read}
-use Rattle.std.specs.List.{HoldsAt}
-use Rattle.std.specs.Prelude.{◌/◌, ◌%◌, IfSome}
-use Rattle.value_data.specs.Datum.{Datum, Items}
-use Rattle.value_data.specs.Listed.{listed}
-use Rattle.value_data.specs.Inside.View.{view, items_view, pairs_view}
+use Rattle.std.proofs.Common.{◌≡◌, ℕ, zero, suc, ◌*◌, ◌<◌, ◌≤◌, List, [], ◌∷◌, Some, None, slice_get, get_or, length, take, drop, refl, sym, ap, ◌∙◌, arith}
+use Rattle.std.specs.Prelude.{◌/◌, ◌%◌}
+use Rattle.value_data.specs.Datum.{Datum}
+use Rattle.value_data.specs.Inside.View.{view, pairs_view}
 use Rattle.value_data.specs.declared.value.Value.{Value}
 use Rattle.value_data.proofs.Views.{value_views}
 use Rattle.value_data.proofs.Lists.{listed-of, lists}
@@ -95,16 +91,5 @@ value-at ps n p n< is odd =
 
 pub past-at : (ps : List (Value × Value)) (n : ℕ) → length ps ≤ n / 2 → slice_get (in_a_row (pairs_view ps)) n ≡ None
 past-at ps n h = past-in_a_row ps n (omega (arith, h))
-
--- an item of those that a slice stands for
-pub item-found : (o : Option (Bor Value)) (xs : Items) (vs : List Value) (n : ℕ) → items_view vs ≡ xs
-    → MatchOption o (length vs ≤ n) (λ x. (n < length vs) × HoldsAt (λ y. x.now ≡ y) vs n) → IfSome o (λ x. x.now ≡ get_or vs n x.now)
-    → option_map (λ v. view v.now) o ≡ slice_get (listed xs) n
-item-found None xs vs n is past at =
-    let same = sym (ap listed is) ∙ listed-of (map view vs) in
-    sym (ap (λ (ds : List Datum). slice_get ds n) same ∙ slice_get-map view vs n ∙ ap (option_map view) (slice_get_past vs n past))
-item-found (Some x) xs vs n is within at =
-    let same = sym (ap listed is) ∙ listed-of (map view vs) in
-    sym (ap (λ (ds : List Datum). slice_get ds n) same ∙ slice_get-map view vs n ∙ ap (option_map view) (slice_get_read vs (length vs) n x.now refl within.0 at))
 
 pub ruleset row_steps = (value_views, lists, row-past, row-end, row-step, row-first, row-first_past, row-whole, length-in_a_row, key-at, value-at, past-at)

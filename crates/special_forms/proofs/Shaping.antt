@@ -14,13 +14,12 @@ use Rattle.value_data.specs.Datum as datum
 use Rattle.value_data.specs.Datum.{Datum, Items, nil, boolean, integer, string, keyword, symbol}
 use Rattle.value_data.specs.Datum.{list, vector, ref, atom, agent, var, fault}
 use Rattle.value_data.specs.Listed.{listed}
-use Rattle.value_data.specs.Inside.View.{view, items_view}
+use Rattle.value_data.specs.Inside.View.{items_view, views}
 use Rattle.value_data.specs.declared.value.Value.{Value}
 use Rattle.value_data.proofs.Views.{value_views}
 use Rattle.value_data.proofs.Lists.{listed-of, lists}
 use Rattle.special_forms.specs.Rows.{BoundForm}
 use Rattle.special_forms.specs.Inside.Bindings.{bindings_in, bound_name}
-use Rattle.special_forms.specs.Inside.Seen.{views}
 use Rattle.special_forms.specs.Kinds.{symbol_name, simple_name}
 use Rattle.repl_values.specs.Slash.{is_slash}
 use Rattle.special_forms.specs.Parameters.{parameter_name, parameter_names}
@@ -84,38 +83,38 @@ pub bound-fails : (d e : Datum) (ds : List Datum) → simple_name d ≡ None →
 bound-fails d e ds named = rw named refl
 
 -- by their places
-bound_behind : (vs : List Value) (v : Value) (t : Bool) (s : List ℕ) → 2 ≤ suc (length vs) → simple_name (view v) ≡ Some s
-    → bound_forms (drop 1 (views vs)) ≡ bound_if t (drop 1 (views vs)) → bound_forms (view v ∷ views vs) ≡ bound_if t (view v ∷ views vs)
-bound_behind [] v t s h named rest = absurd (omega (arith, h))
-bound_behind (w ∷ vs) v t s h named rest = bound-step t (view v) (view w) (views vs) s named rest
+bound_behind : (ds : List Datum) (d : Datum) (t : Bool) (s : List ℕ) → 2 ≤ suc (length ds) → simple_name d ≡ Some s
+    → bound_forms (drop 1 ds) ≡ bound_if t (drop 1 ds) → bound_forms (d ∷ ds) ≡ bound_if t (d ∷ ds)
+bound_behind [] d t s h named rest = absurd (omega (arith, h))
+bound_behind (e ∷ ds) d t s h named rest = bound-step t d e ds s named rest
 
-bound_from : (vs : List Value) (n : ℕ) (v : Value) (t : Bool) (s : List ℕ) → suc (suc n) ≤ length vs → v ≡ get_or vs n v → simple_name (view v) ≡ Some s
-    → bound_forms (drop (suc (suc n)) (views vs)) ≡ bound_if t (drop (suc (suc n)) (views vs)) → bound_forms (drop n (views vs)) ≡ bound_if t (drop n (views vs))
-bound_from [] n v t s h is named rest = absurd (omega (arith, h))
-bound_from (u ∷ vs) zero v t s h is named rest = bound_behind vs u t s h (ap (λ (x : Value). simple_name (view x)) (sym is) ∙ named) rest
-bound_from (u ∷ vs) (suc n) v t s h is named rest = bound_from vs n v t s (omega (arith, h)) is named rest
+bound_from : (ds : List Datum) (n : ℕ) (d : Datum) (t : Bool) (s : List ℕ) → suc (suc n) ≤ length ds → d ≡ get_or ds n d → simple_name d ≡ Some s
+    → bound_forms (drop (suc (suc n)) ds) ≡ bound_if t (drop (suc (suc n)) ds) → bound_forms (drop n ds) ≡ bound_if t (drop n ds)
+bound_from [] n d t s h is named rest = absurd (omega (arith, h))
+bound_from (c ∷ ds) zero d t s h is named rest = bound_behind ds c t s h (ap simple_name (sym is) ∙ named) rest
+bound_from (c ∷ ds) (suc n) d t s h is named rest = bound_from ds n d t s (omega (arith, h)) is named rest
 
-pub bound-at : (vs : List Value) (n : ℕ) (v : Value) (t : Bool) (s : List ℕ) → n + 2 ≤ length vs → v ≡ get_or vs n v → simple_name (view v) ≡ Some s
-    → bound_forms (drop (n + 2) (views vs)) ≡ bound_if t (drop (n + 2) (views vs)) → bound_forms (drop n (views vs)) ≡ bound_if t (drop n (views vs))
-bound-at vs n v t s h is named rest =
+pub bound-at : (ds : List Datum) (n : ℕ) (d : Datum) (t : Bool) (s : List ℕ) → n + 2 ≤ length ds → d ≡ get_or ds n d → simple_name d ≡ Some s
+    → bound_forms (drop (n + 2) ds) ≡ bound_if t (drop (n + 2) ds) → bound_forms (drop n ds) ≡ bound_if t (drop n ds)
+bound-at ds n d t s h is named rest =
     let two : n + 2 ≡ suc (suc n) = omega arith in
-    bound_from vs n v t s (omega (arith, h)) is named (subst (λ (m : ℕ). bound_forms (drop m (views vs)) ≡ bound_if t (drop m (views vs))) two rest)
+    bound_from ds n d t s (omega (arith, h)) is named (subst (λ (m : ℕ). bound_forms (drop m ds) ≡ bound_if t (drop m ds)) two rest)
 
-none_behind : (vs : List Value) (v : Value) → 2 ≤ suc (length vs) → simple_name (view v) ≡ None → bound_forms (view v ∷ views vs) ≡ None
-none_behind [] v h named = absurd (omega (arith, h))
-none_behind (w ∷ vs) v h named = bound-fails (view v) (view w) (views vs) named
+none_behind : (ds : List Datum) (d : Datum) → 2 ≤ suc (length ds) → simple_name d ≡ None → bound_forms (d ∷ ds) ≡ None
+none_behind [] d h named = absurd (omega (arith, h))
+none_behind (e ∷ ds) d h named = bound-fails d e ds named
 
-pub none-at : (vs : List Value) (n : ℕ) (v : Value) → n + 2 ≤ length vs → v ≡ get_or vs n v → simple_name (view v) ≡ None → bound_forms (drop n (views vs)) ≡ None
-none-at [] n v h is named = absurd (omega (arith, h))
-none-at (u ∷ vs) zero v h is named = none_behind vs u h (ap (λ (x : Value). simple_name (view x)) (sym is) ∙ named)
-none-at (u ∷ vs) (suc n) v h is named = none-at vs n v (omega (arith, h)) is named
+pub none-at : (ds : List Datum) (n : ℕ) (d : Datum) → n + 2 ≤ length ds → d ≡ get_or ds n d → simple_name d ≡ None → bound_forms (drop n ds) ≡ None
+none-at [] n d h is named = absurd (omega (arith, h))
+none-at (c ∷ ds) zero d h is named = none_behind ds c h (ap simple_name (sym is) ∙ named)
+none-at (c ∷ ds) (suc n) d h is named = none-at ds n d (omega (arith, h)) is named
 
-pub bound-end : (vs : List Value) (n : ℕ) → n ≤ length vs → length vs - n < 2 → bound_forms (drop n (views vs)) ≡ bound_if (nat_eq n (length vs)) (drop n (views vs))
+pub bound-end : (ds : List Datum) (n : ℕ) → n ≤ length ds → length ds - n < 2 → bound_forms (drop n ds) ≡ bound_if (nat_eq n (length ds)) (drop n ds)
 bound-end [] zero h few = refl
 bound-end [] (suc n) h few = absurd (omega (arith, h))
-bound-end (v ∷ []) zero h few = refl
-bound-end (v ∷ w ∷ vs) zero h few = absurd (omega (arith, few))
-bound-end (v ∷ vs) (suc n) h few = rw eqb-suc-suc (bound-end vs n (omega (arith, h)) (omega (arith, few)))
+bound-end (d ∷ []) zero h few = refl
+bound-end (d ∷ e ∷ ds) zero h few = absurd (omega (arith, few))
+bound-end (d ∷ ds) (suc n) h few = rw eqb-suc-suc (bound-end ds n (omega (arith, h)) (omega (arith, few)))
 
 -- the items that a slice stands for
 pub views-listed : (vs : List Value) (xs : Items) → items_view vs ≡ xs → views vs ≡ listed xs

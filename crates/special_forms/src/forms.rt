@@ -88,7 +88,8 @@ impl Forms {
             .saturating_sub(self.start)
     }
 
-    /// The form at a place, counted from 0, if there is one. It takes one step and no memory.
+    /// The form at a place, counted from 0, if there is one. It takes no memory, and in a list or a
+    /// vector about the logarithm of the number of its items.
     pub fn get(&self, place: usize) -> Option<&Value>
         ensures { option_map (λ v. view v.now) result ≡ slice_get (forms_view self.now) place }
     {
@@ -217,15 +218,9 @@ fn at(source: &FormsHolder, place: usize) -> Option<&Value>
     ensures { option_map (λ v. view v.now) result ≡ slice_get (source_view source.now) place }
 {
     match source {
-        FormsHolder::Items(items) => item_at(items, place),
+        FormsHolder::Items(items) => items.get(place),
         FormsHolder::Pairs(pairs) => part_at(pairs, place),
     }
-}
-
-fn item_at(items: &Sequence, place: usize) -> Option<&Value>
-    ensures { option_map (λ v. view v.now) result ≡ slice_get (listed items.now.items) place }
-{
-    items.as_slice().get(place)
 }
 
 // Keys and values stand by turns.

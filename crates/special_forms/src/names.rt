@@ -2,10 +2,9 @@
 ghost use Rattle.std.specs.Prelude.{◌≡◌, IfOk, option_map, map};
 ghost use Rattle.std.specs.Arc.{arc_str_bytes};
 ghost use Rattle.value_data.specs.Listed.{listed};
-ghost use Rattle.value_data.specs.Inside.View.{view};
+ghost use Rattle.value_data.specs.Inside.View.{view, views};
 ghost use Rattle.special_forms.specs.Kinds as kinds;
 ghost use Rattle.special_forms.specs.Parameters as meant;
-ghost use Rattle.special_forms.specs.Inside.Seen.{views};
 
 use repl_values::{Sequence, Value, copy_text, first_repeated};
 use std::alloc::{AllocError, Global};
@@ -19,6 +18,7 @@ pub(crate) fn parameters_in(
     ensures { IfOk result (λ found. option_map (λ names. map arc_str_bytes names.items) found
         ≡ meant.parameters (listed items.now.items)) }
 {
+    let items = items.copies(alloc)?;
     parameters_of(alloc, items.as_slice())
 }
 

@@ -4,11 +4,11 @@ ghost use Rattle.std.specs.Prelude.{◌≡◌, ◌≤◌, Some, None, if◌then�
 ghost use Rattle.std.specs.Prelude.{map};
 ghost use Rattle.std.specs.Arc.{arc_str_bytes};
 ghost use Rattle.value_data.specs.Listed.{listed};
-ghost use Rattle.value_data.specs.Inside.View.{view};
+ghost use Rattle.value_data.specs.Inside.View.{view, views};
 ghost use Rattle.special_forms.specs.Inside.Bindings.{bindings_in};
 ghost use Rattle.special_forms.specs.Kinds as kinds;
 ghost use Rattle.special_forms.specs.Shapes as meant;
-ghost use Rattle.special_forms.specs.Inside.Seen.{views, forms_view, shape_view};
+ghost use Rattle.special_forms.specs.Inside.Seen.{forms_view, shape_view};
 ghost use Rattle.special_forms.specs.Inside.Size.{forms_size, shape_size};
 
 use crate::forms::Forms;
@@ -225,21 +225,15 @@ fn are_bindings(items: &Sequence) -> bool
     ensures { meant.bound_forms (listed items.now.items)
         ≡ (if result then Some (bindings_in (listed items.now.items)) else None) }
 {
-    by_turns(items.as_slice())
-}
-
-fn by_turns(items: &[Value]) -> bool
-    ensures { meant.bound_forms (views items.now)
-        ≡ (if result then Some (bindings_in (views items.now)) else None) }
-{
+    let count = items.len();
     let mut place = 0;
-    while items.len() - place >= 2 {
-        if simple_symbol(&items[place]).is_none() {
+    while count - place >= 2 {
+        if simple_symbol(items.at(place)).is_none() {
             return false;
         }
         place += 2;
     }
-    place == items.len()
+    place == count
 }
 
 // `(def name form)`.

@@ -3,9 +3,8 @@ use Rattle.std.proofs.Common.{◌≡◌, ◌<◌, ◌+◌, ℕ, suc, List, [], �
 use Rattle.std.proofs.Common.{Ok, Err, refl, ap, sym, ◌∙◌, append_assoc, arith}
 use Rattle.std.proofs.Math.Seq.{drop-cons}
 use Rattle.std.proofs.lemmas.List.{append-nil}
-use Rattle.value_data.specs.Inside.View.{view}
+use Rattle.value_data.specs.Inside.View.{view, views}
 use Rattle.value_data.specs.declared.value.Value.{Value}
-use Rattle.special_forms.specs.Inside.Seen.{views}
 use Rattle.repl_values.specs.Failure.{Failure, ◌>>=◌}
 use Rattle.core_functions.specs.declared.store.StoreFunction.{StoreFunction}
 use Rattle.store_calls.specs.Arguments.{agent_in}

@@ -2,9 +2,8 @@
 use Rattle.std.proofs.Common.{◌≡◌, ◌<◌, ◌≤◌, List, [], ◌∷◌, get_or, take, drop, length, ◌-◌, Result}
 use Rattle.std.proofs.Common.{Ok, refl, ap, sym, ◌∙◌, arith}
 use Rattle.std.proofs.lemmas.List.{take_all}
-use Rattle.value_data.specs.Inside.View.{view}
+use Rattle.value_data.specs.Inside.View.{view, views}
 use Rattle.value_data.specs.declared.value.Value.{Value}
-use Rattle.special_forms.specs.Inside.Seen.{views}
 use Rattle.repl_values.specs.Failure.{Failure, ◌>>=◌}
 use Rattle.store_calls.specs.Arguments.{BoundsData, with_option, bounds_in}
 

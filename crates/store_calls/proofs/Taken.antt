@@ -3,9 +3,8 @@ use Rattle.std.proofs.Common.{◌≡◌, ◌≢◌, List, [], ◌∷◌, ◌++�
 use Rattle.std.proofs.Common.{true, Err, option_map, slice_get, arith, refl}
 use Rattle.std.proofs.lemmas.Bool.Decides.{nat_tests}
 use Rattle.value_data.specs.Datum.{Datum}
-use Rattle.value_data.specs.Inside.View.{view}
+use Rattle.value_data.specs.Inside.View.{view, views}
 use Rattle.value_data.specs.declared.value.Value.{Value}
-use Rattle.special_forms.specs.Inside.Seen.{views}
 use Rattle.repl_values.specs.Failure.{broken_rule}
 use Rattle.repl_values.specs.declared.rule.Rule.{Rule}
 use Rattle.core_functions.specs.StoreNames.{store_fits}

@@ -1,7 +1,6 @@
 // Calls of the functions of agents.
 ghost use Rattle.std.specs.Prelude.{◌≡◌};
-ghost use Rattle.value_data.specs.Inside.View.{view};
-ghost use Rattle.special_forms.specs.Inside.Seen.{views};
+ghost use Rattle.value_data.specs.Inside.View.{view, views};
 ghost use Rattle.repl_values.specs.Inside.FaultView.{Gives};
 ghost use Rattle.store_calls.specs.Calling as meant;
 ghost use Rattle.store_calls.specs.Inside.View.{call_view};

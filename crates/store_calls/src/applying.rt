@@ -1,7 +1,6 @@
 // Calls, by the functions that are called.
 ghost use Rattle.std.specs.Prelude.{◌≡◌, ◌∷◌, true, option_map, vec_len, IfOk};
-ghost use Rattle.value_data.specs.Inside.View.{view};
-ghost use Rattle.special_forms.specs.Inside.Seen.{views};
+ghost use Rattle.value_data.specs.Inside.View.{view, views};
 ghost use Rattle.core_functions.specs.StoreNames.{store_fits};
 ghost use Rattle.repl_asks.specs.Inside.View.{name_view};
 ghost use Rattle.repl_values.specs.Inside.FaultView.{Gives};

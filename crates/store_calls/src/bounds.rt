@@ -1,8 +1,7 @@
 // The bounds of a ref's history, and the options that set them.
 ghost use Rattle.std.specs.Prelude.{◌≡◌};
 ghost use Rattle.std.specs.Arc.{arc_str_bytes};
-ghost use Rattle.value_data.specs.Inside.View.{view};
-ghost use Rattle.special_forms.specs.Inside.Seen.{views};
+ghost use Rattle.value_data.specs.Inside.View.{view, views};
 ghost use Rattle.repl_asks.specs.Inside.View.{name_view, ask_view};
 ghost use Rattle.repl_values.specs.Inside.FaultView.{Gives};
 ghost use Rattle.store_calls.specs.Arguments as meant;

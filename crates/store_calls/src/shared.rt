@@ -1,7 +1,6 @@
 // Calls in the text of the namespace that all tenants share, which makes refs and reads them.
 ghost use Rattle.std.specs.Prelude.{◌≡◌, true, vec_len, IfOk};
-ghost use Rattle.value_data.specs.Inside.View.{view};
-ghost use Rattle.special_forms.specs.Inside.Seen.{views};
+ghost use Rattle.value_data.specs.Inside.View.{view, views};
 ghost use Rattle.core_functions.specs.StoreNames.{store_fits};
 ghost use Rattle.core_functions.specs.declared.store.StoreFunction.{StoreFunction};
 ghost use Rattle.repl_values.specs.Inside.FaultView.{Gives};

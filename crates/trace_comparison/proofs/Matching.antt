@@ -2,9 +2,9 @@
 use Rattle.std.proofs.Common.{◌≡◌, ◌≢◌, ℕ, zero, suc, ◌+◌, ◌<◌, List, [], ◌∷◌, Some, length, get_or, take, slice_get, map, option_map, refl, sym, ap, ◌∙◌, add-one, arith}
 use Rattle.std.proofs.lemmas.List.{length-map, get_or_default}
 use Rattle.std.proofs.lemmas.Option.{slice_get-map, slice_get_read}
-use Rattle.value_data.specs.Listed.{listed, pairs_listed}
-use Rattle.value_data.proofs.Lists.{listed-of, pairs_listed-of}
-use Rattle.value_data.specs.Inside.View.{owner_view, view, pair_view, items_view, pairs_view}
+use Rattle.value_data.specs.Listed.{pairs_listed}
+use Rattle.value_data.proofs.Lists.{pairs_listed-of}
+use Rattle.value_data.specs.Inside.View.{owner_view, pair_view, pairs_view}
 use Rattle.value_data.specs.declared.value.Owner.{Owner}
 use Rattle.value_data.specs.declared.value.RefName.{RefName}
 use Rattle.value_data.specs.declared.value.Value.{Value}
@@ -66,10 +66,7 @@ module _ {A B : Type 0} (f : A → B) where
   pub unequal-lengths : (xs ys : List A) → length xs ≢ length ys → map f xs ≡ map f ys → ⊥
   unequal-lengths xs ys differ e = differ (sym (length-map xs f) ∙ ap length e ∙ length-map ys f)
 
--- items and pairs as the lists that they were made of
-pub items-listed : (xs ys : List Value) → items_view xs ≡ items_view ys → map view xs ≡ map view ys
-items-listed xs ys e = sym (listed-of (map view xs)) ∙ ap listed e ∙ listed-of (map view ys)
-
+-- pairs as the list that they were made of
 pub pairs-listed : (xs ys : List (Value × Value)) → pairs_view xs ≡ pairs_view ys → map pair_view xs ≡ map pair_view ys
 pairs-listed xs ys e = sym (pairs_listed-of (map pair_view xs)) ∙ ap pairs_listed e ∙ pairs_listed-of (map pair_view ys)
 
@@ -86,6 +83,6 @@ name-same a b e =
     let number : a.number ≡ b.number = ap (λ (n : RefNameData). n.number) e in
     rw (owner, number) refl
 
-pub ruleset place_steps = (equal-next, take-next, differ-at, goes-on, unequal-lengths, items-listed, pairs-listed)
+pub ruleset place_steps = (equal-next, take-next, differ-at, goes-on, unequal-lengths, pairs-listed)
 
 pub ruleset ref_steps = (name-same, equal-next_copied, differ-at_copied, unequal-lengths)

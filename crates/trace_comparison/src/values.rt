@@ -1,9 +1,9 @@
 // When two values are the same.
-#![tactic(auto, using(crate::proofs::Matching::place_steps, value_data::proofs::Nodes::node_steps))]
+#![tactic(auto, using(crate::proofs::Sequences::value_steps))]
 
 ghost use Rattle.std.specs.Prelude.{◌≡◌, ◌↔◌, IsTrue};
 ghost use Rattle.std.specs.Arc.{arc_str_bytes};
-ghost use Rattle.value_data.specs.Inside.View.{view, pair_view, items_view, pairs_view};
+ghost use Rattle.value_data.specs.Inside.View.{view, views, pair_view, pairs_view};
 
 use repl_values::{RefName, Sequence, Table, Value};
 use std::sync::ArcStr;
@@ -68,12 +68,34 @@ fn same_sequence(left: &Sequence, right: &Sequence) -> bool
     left.hash() == right.hash()
         && left.weight() == right.weight()
         && left.nesting() == right.nesting()
-        && same_items(left.as_slice(), right.as_slice())
+        && same_items(left, right)
+}
+
+// Whether the items are the same, in order. They are read chunk by chunk.
+#[cycle(same_value)]
+fn same_items(left: &Sequence, right: &Sequence) -> bool
+    ensures { IsTrue result ↔ (left.now.items ≡ right.now.items) }
+{
+    let count = left.len();
+    if count != right.len() {
+        return false;
+    }
+    let mut place = 0;
+    while place < count {
+        let ours = left.chunk_from(place);
+        let theirs = right.chunk_from(place);
+        let common = ours.len().min(theirs.len());
+        if !same_chunks(&ours[..common], &theirs[..common]) {
+            return false;
+        }
+        place += common;
+    }
+    true
 }
 
 #[cycle(same_value)]
-fn same_items(left: &[Value], right: &[Value]) -> bool
-    ensures { IsTrue result ↔ (items_view left.now ≡ items_view right.now) }
+fn same_chunks(left: &[Value], right: &[Value]) -> bool
+    ensures { IsTrue result ↔ (views left.now ≡ views right.now) }
 {
     if left.len() != right.len() {
         return false;

@@ -10,7 +10,7 @@ use Rattle.value_data.specs.Datum.{OwnerData, shared, tenant, Datum, nil, boolea
 use Rattle.value_data.specs.Inside.View.{pairs_view}
 use Rattle.value_data.specs.declared.value.Value.{Value}
 use Rattle.value_data.specs.Same.{same, same_owner, same_items, size, within, each_pair, is_among, has_pair}
-use Rattle.value_data.specs.Inside.Hash.{hash, items_hash, peak, mixed, salted, mixed_text, owner_hash, pair_hash}
+use Rattle.value_data.specs.Inside.Hash.{hash, items_hash, peak, mixed, salted, text_hash, owner_hash, pair_hash}
 
 -- after the last pair the greatest so far is the greatest of all
 pub peak-done : (salt top : ℕ) (xs : List (Value × Value)) (i : ℕ) → length xs ≤ i
@@ -64,7 +64,7 @@ map-hash : (ps qs : Pairs) → size ps ≡ size qs → ((salt : ℕ) → peak sa
 map-hash ps qs s e = rw (s, e 0xD6E8FEB86659FD93, e 0x2917014799A6026D, e 0xBF58476D1CE4E5B9, e 0x40A7B892E31B1A47) refl
 
 two-texts : (tag : ℕ) (s t m n : List ℕ) → (bytes_eq s t && bytes_eq m n) ≡ true
-    → mixed_text (mixed (mixed_text tag s) 255) m ≡ mixed_text (mixed (mixed_text tag t) 255) n
+    → text_hash (text_hash tag s) m ≡ text_hash (text_hash tag t) n
 two-texts tag s t m n h =
     rw ((bytes_eq-Decides s t).0 (and-left (bytes_eq s t) (bytes_eq m n) h), (bytes_eq-Decides m n).0 (and-right (bytes_eq s t) (bytes_eq m n) h)) refl
 
@@ -73,9 +73,9 @@ mutual
   hash-same nil nil h = refl
   hash-same (boolean b) (boolean c) h = ap (λ x. hash (boolean x)) ((booleans_Decides b c).0 h)
   hash-same (integer m) (integer n) h = ap (λ x. hash (integer x)) ((Decides-int_eq m n).0 h)
-  hash-same (string s) (string t) h = ap (mixed_text 4) ((bytes_eq-Decides s t).0 h)
-  hash-same (keyword s) (keyword t) h = ap (mixed_text 5) ((bytes_eq-Decides s t).0 h)
-  hash-same (symbol s) (symbol t) h = ap (mixed_text 6) ((bytes_eq-Decides s t).0 h)
+  hash-same (string s) (string t) h = ap (text_hash 4) ((bytes_eq-Decides s t).0 h)
+  hash-same (keyword s) (keyword t) h = ap (text_hash 5) ((bytes_eq-Decides s t).0 h)
+  hash-same (symbol s) (symbol t) h = ap (text_hash 6) ((bytes_eq-Decides s t).0 h)
   hash-same (list ds) (list es) h = items-hash-same ds es 7 h
   hash-same (list ds) (vector es) h = items-hash-same ds es 7 h
   hash-same (vector ds) (list es) h = items-hash-same ds es 7 h

@@ -9,7 +9,9 @@ pub mod Transitive
 pub mod Views
 pub mod Growing
 pub mod Lists
-pub mod TailSteps
+pub mod Rows
+pub mod Sums
+pub mod Changing
 pub mod Removing
 pub mod Leaving
 pub mod Replacing
@@ -18,3 +20,4 @@ pub mod Sorted
 pub mod Ties
 pub mod Ranked
 pub mod Searching
+pub mod Chunks

@@ -1,9 +1,9 @@
 -- Pairs with another value at one place, and what was measured of them.
-use Rattle.std.proofs.Common.{◌≡◌, ℕ, zero, suc, ◌+◌, ◌≤◌, max, List, [], ◌∷◌, length, get_or, ◌<◌, ap, sym, arith}
+use Rattle.std.proofs.Common.{◌≡◌, Bool, true, false, ◌&&◌, refl, ◌∙◌, ℕ, zero, suc, ◌+◌, ◌≤◌, max, List, [], ◌∷◌, length, get_or, ◌<◌, ap, sym, arith}
 use Rattle.value_data.specs.Datum.{Datum, Pairs, no_pairs, pair}
 use Rattle.value_data.specs.Inside.View.{view, pairs_view}
 use Rattle.value_data.specs.Inside.Placed.{with_value, StandsAt}
-use Rattle.value_data.specs.Measures.{weight, nesting, pairs_weight, pairs_nesting}
+use Rattle.value_data.specs.Measures.{weight, nesting, is_plain, pairs_weight, pairs_nesting, pairs_are_plain}
 use Rattle.value_data.specs.Inside.Hash.{hash, peak, salted, pair_hash}
 use Rattle.value_data.specs.declared.value.Value.{Value}
 
@@ -30,6 +30,33 @@ nesting-with (pair l w ps) zero k v d h = (max (nesting l) (pairs_nesting ps), o
 nesting-with (pair l w ps) (suc n) k v d h =
     let r : (m : ℕ) × (pairs_nesting ps ≡ max m (nesting v)) × (pairs_nesting (with_value n d ps) ≡ max m (nesting d)) = nesting-with ps n k v d h in
     (max (max (nesting l) (nesting w)) r.0, omega (arith, r.1), omega (arith, r.2))
+
+and-swap : (a b c : Bool) → ((a && b) && c) ≡ ((a && c) && b)
+and-swap true true true = refl
+and-swap true true false = refl
+and-swap true false true = refl
+and-swap true false false = refl
+and-swap false b c = refl
+
+and-assoc : (a b c : Bool) → (a && (b && c)) ≡ ((a && b) && c)
+and-assoc true b c = refl
+and-assoc false b c = refl
+
+-- the others are as plain as they were
+pub plain-with : (ps : Pairs) (n : ℕ) (k v d : Datum) → StandsAt ps n k v
+    → (b : Bool) × (pairs_are_plain ps ≡ (b && is_plain v)) × (pairs_are_plain (with_value n d ps) ≡ (b && is_plain d))
+plain-with no_pairs n k v d h = absurd h
+plain-with (pair l w ps) zero k v d h = (
+  is_plain l && pairs_are_plain ps,
+  and-swap (is_plain l) (is_plain w) (pairs_are_plain ps) ∙ ap (λ (e : Datum). (is_plain l && pairs_are_plain ps) && is_plain e) h.1,
+  and-swap (is_plain l) (is_plain d) (pairs_are_plain ps),
+)
+plain-with (pair l w ps) (suc n) k v d h =
+    let r : (b : Bool) × (pairs_are_plain ps ≡ (b && is_plain v)) × (pairs_are_plain (with_value n d ps) ≡ (b && is_plain d)) = plain-with ps n k v d h in (
+      (is_plain l && is_plain w) && r.0,
+      ap (λ b. (is_plain l && is_plain w) && b) r.1 ∙ and-assoc (is_plain l && is_plain w) r.0 (is_plain v),
+      ap (λ b. (is_plain l && is_plain w) && b) r.2 ∙ and-assoc (is_plain l && is_plain w) r.0 (is_plain d),
+    )
 
 pub peak-with : (salt : ℕ) (ps : Pairs) (n : ℕ) (k v d : Datum) → StandsAt ps n k v
     → (m : ℕ) × (peak salt ps ≡ max m (salted salt (pair_hash (hash k) (hash v)))) × (peak salt (with_value n d ps) ≡ max m (salted salt (pair_hash (hash k) (hash d))))

@@ -11,8 +11,7 @@ pub mod Ends
 pub mod Placed
 pub mod Index
 pub mod Fits
-pub mod Tails
-pub mod TailView
+pub mod Changes
 pub mod Nodes
 pub mod Falls
 pub mod Seen

@@ -1,7 +1,8 @@
 // Copies: one more owner of what a value shares.
-ghost use Rattle.std.specs.Prelude.{◌≡◌, IfOk, map};
+ghost use Rattle.std.specs.Prelude.{◌≡◌, ◌++◌, IfOk, map};
 ghost use Rattle.std.specs.Arc.{arc_str_bytes};
-ghost use Rattle.value_data.specs.Inside.View.{view, pair_view};
+ghost use Rattle.value_data.specs.Inside.View.{view, views, pair_view};
+ghost use Rattle.value_data.specs.Inside.Nodes.{held_count, items_held};
 
 use crate::value::Value;
 use std::alloc::{AllocError, Global};
@@ -18,6 +19,14 @@ pub fn copy_text(text: &ArcStr) -> Result<ArcStr, AllocError>
 /// share a node.
 pub fn copy(value: &Value) -> Result<Value, AllocError>
     ensures { IfOk result (λ copied. view copied ≡ view value.now) }
+{
+    share(value)
+}
+
+// The same, over the same nodes.
+fn share(value: &Value) -> Result<Value, AllocError>
+    ensures seen { IfOk result (λ copied. view copied ≡ view value.now) }
+    ensures held { IfOk result (λ copied. held_count copied ≡ held_count value.now) }
 {
     match value {
         Value::Nil => Ok(Value::Nil),
@@ -47,24 +56,36 @@ pub fn copy(value: &Value) -> Result<Value, AllocError>
 pub fn copy_items(alloc: Global, items: &[Value]) -> Result<Vec<Value>, AllocError>
     ensures { IfOk result (λ copies. map view copies.items ≡ map view items.now) }
 {
-    copies_with_room(alloc, items, 0)
+    share_items(alloc, items, 0)
 }
 
-// The same items, in a vector that has room for more.
-pub(crate) fn copies_with_room(
+// The same items over the same nodes, in a vector that has room for more.
+pub(crate) fn share_items(
     alloc: Global,
     items: &[Value],
     more: usize,
 ) -> Result<Vec<Value>, AllocError>
-    ensures { IfOk result (λ copies. map view copies.items ≡ map view items.now) }
+    ensures seen { IfOk result (λ copies. views copies.items ≡ views items.now) }
+    ensures held { IfOk result (λ copies. items_held copies.items ≡ items_held items.now) }
 {
     let mut copies = Vec::with_capacity(alloc, items.len().saturating_add(more))?;
     for item in items {
-        // A row of numbers is copied without a call for each.
-        match item {
-            Value::Int(n) => copies.push_reserved(Value::Int(*n)),
-            other => copies.push_reserved(copy(other)?),
-        }
+        copies.push_reserved(share(item)?);
+    }
+    Ok(copies)
+}
+
+// The items of one row and then those of another.
+pub(crate) fn share_both(
+    alloc: Global,
+    first: &[Value],
+    second: &[Value],
+) -> Result<Vec<Value>, AllocError>
+    ensures { IfOk result (λ copies. views copies.items ≡ views first.now ++ views second.now) }
+{
+    let mut copies = share_items(alloc, first, second.len())?;
+    for item in second {
+        copies.push(share(item)?)?;
     }
     Ok(copies)
 }

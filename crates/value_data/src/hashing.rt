@@ -1,14 +1,15 @@
 // A hash that agrees with equality, so that keys are found without comparing all with all.
-ghost use Rattle.std.specs.Prelude.{◌≡◌, max};
+ghost use Rattle.std.specs.Prelude.{◌≡◌, max, take};
 ghost use Rattle.std.specs.Arc.{arc_str_bytes};
 ghost use Rattle.value_data.specs.Inside.View.{view, owner_view};
-ghost use Rattle.value_data.specs.Inside.Hash.{hash, mixed, salted, mixed_text, owner_hash};
+ghost use Rattle.value_data.specs.Inside.Hash.{hash, mixed, salted, mixed_text, text_hash};
+ghost use Rattle.value_data.specs.Inside.Hash.{owner_hash};
 
 use crate::value::{Owner, Value};
 use std::sync::ArcStr;
 
-/// A number that is the same for equal values. It takes no memory. A text is read once; that of a
-/// list, a vector or a map was kept.
+/// A number that is the same for equal values. It takes no memory. Of a text some 64 bytes
+/// are read; the number of a list, a vector or a map was kept.
 pub fn hash_of(value: &Value) -> u64
     ensures { result ≡ hash (view value.now) }
 {
@@ -17,17 +18,17 @@ pub fn hash_of(value: &Value) -> u64
         Value::Bool(true) => mix(2, 1),
         Value::Bool(false) => mix(2, 0),
         Value::Int(n) => mix(3, n.unsigned_abs()),
-        Value::Str(text) => mix_text(4, text),
-        Value::Keyword(text) => mix_text(5, text),
-        Value::Symbol(text) => mix_text(6, text),
+        Value::Str(text) => hash_text(4, text),
+        Value::Keyword(text) => hash_text(5, text),
+        Value::Symbol(text) => hash_text(6, text),
         Value::List(items) => items.hash(),
         Value::Vector(items) => items.hash(),
         Value::Map(pairs) => pairs.hash(),
         Value::Ref(name) => mix(hash_owner(name.owner), name.number),
         Value::Atom(number) => mix(12, *number),
         Value::Agent(number) => mix(13, *number),
-        Value::Var { space, name } => mix_two_texts(14, space, name),
-        Value::Fault { class, text } => mix_two_texts(15, class, text),
+        Value::Var { space, name } => hash_text(hash_text(14, space), name),
+        Value::Fault { class, text } => hash_text(hash_text(15, class), text),
     }
 }
 
@@ -52,21 +53,34 @@ pub(crate) fn salt(by: u64, word: u64) -> u64
     word.wrapping_mul(by)
 }
 
-fn mix_text(seed: u64, text: &ArcStr) -> u64
-    ensures { result ≡ mixed_text seed (arc_str_bytes text.now) }
+// How many bytes of a text are read for its hash.
+const READ: usize = 64;
+
+fn hash_text(seed: u64, text: &ArcStr) -> u64
+    ensures { result ≡ text_hash seed (arc_str_bytes text.now) }
+{
+    let bytes = text.as_str().as_bytes();
+    mix(mix_bytes(seed, front(bytes)), bytes.len() as u64)
+}
+
+fn front(bytes: &[u8]) -> &[u8]
+    ensures { result.now ≡ take 64 bytes.now }
+{
+    if bytes.len() <= READ {
+        bytes
+    } else {
+        &bytes[..READ]
+    }
+}
+
+fn mix_bytes(seed: u64, bytes: &[u8]) -> u64
+    ensures { result ≡ mixed_text seed bytes.now }
 {
     let mut hash = seed;
-    for byte in text.as_str().as_bytes() {
+    for byte in bytes {
         hash = mix(hash, u64::from(*byte));
     }
     hash
-}
-
-fn mix_two_texts(seed: u64, first: &ArcStr, second: &ArcStr) -> u64
-    ensures { result ≡ mixed_text (mixed (mixed_text seed (arc_str_bytes first.now)) 255)
-        (arc_str_bytes second.now) }
-{
-    mix_text(mix(mix_text(seed, first), 255), second)
 }
 
 fn hash_owner(owner: Owner) -> u64

@@ -8,24 +8,28 @@
 #![tactic(auto)]
 
 mod building;
+mod changes;
 mod copies;
 mod edits;
 mod equality;
+mod forks;
 mod hashing;
 mod measure;
 mod node_measures;
 mod order;
+mod owning;
 mod places;
+mod reads;
 mod removal;
 mod sequence;
 mod table;
-mod tails;
+mod tree;
 mod value;
 
 pub use building::Built;
 pub use copies::{copy, copy_items, copy_text};
 pub use equality::same;
 pub use hashing::hash_of;
-pub use measure::{nesting, weight};
+pub use measure::{is_plain, nesting, weight};
 pub use removal::pair_as_vector;
 pub use value::{Owner, RefName, Sequence, Table, Value};

@@ -1,10 +1,12 @@
-// How large and how deep a value is, read from its node. Nothing here takes memory.
+// How large and how deep a value is, and whether it is plain, read from its node. Nothing here takes
+// memory.
 #![tactic(auto, using(crate::proofs::Nodes::node_steps))]
 
 ghost use Rattle.std.specs.Prelude.{◌≡◌, ◌+◌, length};
 ghost use Rattle.std.specs.Arc.{arc_str_bytes};
 ghost use Rattle.value_data.specs.Inside.View.{view};
 ghost use Rattle.value_data.specs.Measures.{capped, weight as weight_of, nesting as nesting_of};
+ghost use Rattle.value_data.specs.Measures.{is_plain as plain};
 
 use crate::value::Value;
 use std::sync::ArcStr;
@@ -44,5 +46,23 @@ pub fn nesting(value: &Value) -> u64
         Value::List(items) | Value::Vector(items) => items.nesting().saturating_add(1),
         Value::Map(pairs) => pairs.nesting().saturating_add(1),
         _ => 0,
+    }
+}
+
+/// Whether no ref, atom, agent or var stands anywhere inside the value.
+pub fn is_plain(value: &Value) -> bool
+    ensures { result ≡ plain (view value.now) }
+{
+    match value {
+        Value::List(items) | Value::Vector(items) => items.is_plain(),
+        Value::Map(pairs) => pairs.is_plain(),
+        Value::Ref(_) | Value::Atom(_) | Value::Agent(_) | Value::Var { .. } => false,
+        Value::Nil
+        | Value::Bool(_)
+        | Value::Int(_)
+        | Value::Str(_)
+        | Value::Keyword(_)
+        | Value::Symbol(_)
+        | Value::Fault { .. } => true,
     }
 }

@@ -1,32 +1,36 @@
 // What is kept of the items of a list or a vector, and of the pairs of a map.
-ghost use Rattle.std.specs.Prelude.{◌≡◌, ℕ, max, IfSome};
-ghost use Rattle.value_data.specs.Datum.{Items, no_items, Pairs, no_pairs, map};
-ghost use Rattle.value_data.specs.Inside.View.{view};
+ghost use Rattle.std.specs.Prelude.{◌≡◌, ℕ, Bool, ◌&&◌, max, List, [], ◌∷◌, ◌++◌, IfSome};
+ghost use Rattle.value_data.specs.Datum.{Datum, Pairs, no_pairs, map};
+ghost use Rattle.value_data.specs.Listed.{items_of};
+ghost use Rattle.value_data.specs.Inside.View.{view, views};
 ghost use Rattle.value_data.specs.Same.{size};
-ghost use Rattle.value_data.specs.Inside.Hash.{hash, salted};
-ghost use Rattle.value_data.specs.Inside.Ends.{with_last};
+ghost use Rattle.value_data.specs.Inside.Hash.{hash, items_hash, salted};
 ghost use Rattle.value_data.specs.Keyed.{behind_all};
 ghost use Rattle.value_data.specs.Inside.Placed.{with_value, StandsAt};
 ghost use Rattle.value_data.specs.Inside.Seen.{MayFit};
 ghost use Rattle.value_data.specs.Inside.Fits.{FitsItems, FitsPairs};
 
 use crate::hashing::{hash_of, mix, raise, salt};
-use crate::measure::{nesting, weight};
+use crate::measure::{is_plain, nesting, weight};
 use crate::value::Value;
 
-// Their weight and nesting, and what a list of them hashes to.
+// Their weight and nesting, whether all are plain, and the two numbers by which they change a hash
+// that goes over them: h becomes h * factor + addend.
 #[derive(Clone, Copy, Debug)]
 pub(crate) struct ItemsMeasure {
     pub(crate) weight: u64,
     pub(crate) nesting: u64,
-    pub(crate) hash: u64,
+    pub(crate) plain: bool,
+    pub(crate) factor: u64,
+    pub(crate) addend: u64,
 }
 
-// Their weight and nesting, and the four numbers that a map's hash is made of beside its size.
+// Their weight and nesting, whether all are plain, and the four numbers that a map's hash is made of beside its size.
 #[derive(Clone, Copy, Debug)]
 pub(crate) struct PairsMeasure {
     pub(crate) weight: u64,
     pub(crate) nesting: u64,
+    pub(crate) plain: bool,
     pub(crate) first: u64,
     pub(crate) second: u64,
     pub(crate) third: u64,
@@ -36,26 +40,64 @@ pub(crate) struct PairsMeasure {
 impl ItemsMeasure {
     // Of no items.
     pub(crate) fn of_none() -> ItemsMeasure
-        ensures { FitsItems result no_items }
+        ensures { FitsItems result [] }
     {
         ItemsMeasure {
             weight: 0,
             nesting: 0,
-            hash: 7,
+            plain: true,
+            factor: 1,
+            addend: 0,
         }
     }
 
-    // Of the items with one more behind them.
-    pub(crate) fn with_last(self, last: &Value) -> ItemsMeasure
-        ensures { (ds : Items) → FitsItems self ds
-            → FitsItems result (with_last ds (view last.now)) }
+    // Of one item.
+    pub(crate) fn of_one(item: &Value) -> ItemsMeasure
+        ensures { FitsItems result (view item.now ∷ []) }
     {
         ItemsMeasure {
-            weight: self.weight.saturating_add(weight(last)),
-            nesting: self.nesting.max(nesting(last)),
-            hash: mix(self.hash, hash_of(last)),
+            weight: weight(item),
+            nesting: nesting(item),
+            plain: is_plain(item),
+            factor: 0x9E3779B97F4A7C15,
+            addend: hash_of(item),
         }
     }
+
+    // Of the items of the one and then those of the other.
+    pub(crate) fn plus(self, other: ItemsMeasure) -> ItemsMeasure
+        ensures { (ds es : List Datum) → FitsItems self ds → FitsItems other es
+            → FitsItems result (ds ++ es) }
+    {
+        ItemsMeasure {
+            weight: self.weight.saturating_add(other.weight),
+            nesting: self.nesting.max(other.nesting),
+            plain: both(self.plain, other.plain),
+            factor: self.factor.wrapping_mul(other.factor),
+            addend: self
+                .addend
+                .wrapping_mul(other.factor)
+                .wrapping_add(other.addend),
+        }
+    }
+
+    // What a list of the items hashes to.
+    pub(crate) fn hash(self) -> u64
+        ensures { (ds : List Datum) → FitsItems self ds → result ≡ items_hash 7 (items_of ds) }
+    {
+        self.factor.wrapping_mul(7).wrapping_add(self.addend)
+    }
+}
+
+// Of some items, read one by one.
+pub(crate) fn measure_of(items: &[Value]) -> ItemsMeasure
+    ensures { FitsItems result (views items.now) }
+{
+    let mut measure = ItemsMeasure::of_none();
+    for item in items {
+        measure = measure.plus(ItemsMeasure::of_one(item));
+    }
+    measure
 }
 
 impl PairsMeasure {
@@ -66,6 +108,7 @@ impl PairsMeasure {
         PairsMeasure {
             weight: 0,
             nesting: 0,
+            plain: true,
             first: 0,
             second: 0,
             third: 0,
@@ -85,6 +128,7 @@ impl PairsMeasure {
                 .saturating_add(weight(key))
                 .saturating_add(weight(value)),
             nesting: self.nesting.max(nesting(key)).max(nesting(value)),
+            plain: both(self.plain, both(is_plain(key), is_plain(value))),
             first: raise(self.first, 0xD6E8FEB86659FD93, word),
             second: raise(self.second, 0x2917014799A6026D, word),
             third: raise(self.third, 0xBF58476D1CE4E5B9, word),
@@ -110,6 +154,7 @@ impl PairsMeasure {
                 .saturating_sub(weight(old))
                 .saturating_add(weight(new)),
             nesting: greatest(self.nesting, nesting(old), nesting(new))?,
+            plain: all(self.plain, is_plain(old), is_plain(new))?,
             first: peak(self.first, 0xD6E8FEB86659FD93, before, now)?,
             second: peak(self.second, 0x2917014799A6026D, before, now)?,
             third: peak(self.third, 0xBF58476D1CE4E5B9, before, now)?,
@@ -137,6 +182,26 @@ fn greatest(top: u64, old: u64, new: u64) -> Option<u64>
 {
     if old < top || old <= new {
         Some(top.max(new))
+    } else {
+        None
+    }
+}
+
+fn both(first: bool, second: bool) -> bool
+    ensures { result ≡ (first && second) }
+{
+    first && second
+}
+
+// The same of tests that all have to hold.
+fn all(held: bool, old: bool, new: bool) -> Option<bool>
+    ensures { IfSome result (λ found. (others : Bool) → held ≡ (others && old)
+        → found ≡ (others && new)) }
+{
+    if held {
+        Some(new)
+    } else if old || !new {
+        Some(false)
     } else {
         None
     }

@@ -107,27 +107,45 @@ fn compare_sequences(left: &Sequence, right: &Sequence) -> Ordering
     ensures { result ≡ order (content (list left.now.items)) (content (list right.now.items)) }
 {
     match left.hash().cmp(&right.hash()) {
-        Ordering::Equal => compare_items(left.as_slice(), right.as_slice()),
+        Ordering::Equal => compare_items(left, right),
         unequal => unequal,
     }
 }
 
-// The first items that differ decide, and else the number of items.
+// The first items that differ decide, and else the number of items. They are read chunk by chunk.
 #[cycle(compare)]
-fn compare_items(left: &[Value], right: &[Value]) -> Ordering
+fn compare_items(left: &Sequence, right: &Sequence) -> Ordering
+    ensures { result ≡ order (items_sort_key left.now.items) (items_sort_key right.now.items) }
+{
+    let count = left.len().min(right.len());
+    let mut place = 0;
+    while place < count {
+        let ours = left.chunk_from(place);
+        let theirs = right.chunk_from(place);
+        let common = ours.len().min(theirs.len());
+        let compared = compare_chunks(&ours[..common], &theirs[..common]);
+        if compared.is_ne() {
+            return compared;
+        }
+        place += common;
+    }
+    left.len().cmp(&right.len())
+}
+
+// Of as many items each.
+#[cycle(compare)]
+fn compare_chunks(left: &[Value], right: &[Value]) -> Ordering
+    requires { length left.now ≡ length right.now }
     ensures { result ≡ order (items_sort_key (items_view left.now))
         (items_sort_key (items_view right.now)) }
 {
     for (place, item) in left.iter().enumerate() {
-        let Some(other) = right.get(place) else {
-            return Ordering::Greater;
-        };
-        let compared = compare(item, other);
+        let compared = compare(item, &right[place]);
         if compared.is_ne() {
             return compared;
         }
     }
-    left.len().cmp(&right.len())
+    Ordering::Equal
 }
 
 #[cycle(compare)]

@@ -5,7 +5,7 @@ ghost use Rattle.std.specs.Prelude.{◌≡◌, true, is_some, option_map, IfOk};
 ghost use Rattle.value_data.specs.Datum.{map};
 ghost use Rattle.value_data.specs.Inside.View.{view, pairs_view};
 ghost use Rattle.value_data.specs.Same.{size};
-ghost use Rattle.value_data.specs.Measures.{capped, pairs_weight, pairs_nesting};
+ghost use Rattle.value_data.specs.Measures.{capped, pairs_weight, pairs_nesting, pairs_are_plain};
 ghost use Rattle.value_data.specs.Inside.Hash.{hash};
 ghost use Rattle.value_data.specs.Keyed.{value_under};
 ghost use Rattle.value_data.specs.Inside.Placed.{are_distinct};
@@ -75,6 +75,13 @@ impl Table {
         ensures { result ≡ capped (pairs_nesting self.now.pairs) }
     {
         self.node.measure.nesting
+    }
+
+    /// Whether all keys and values are plain, read from their node.
+    pub fn is_plain(&self) -> bool
+        ensures { result ≡ pairs_are_plain self.now.pairs }
+    {
+        self.node.measure.plain
     }
 
     /// What a map of these pairs hashes to, from what their node keeps.

@@ -41,22 +41,57 @@ pub enum Value {
     Fault { class: ArcStr, text: ArcStr },
 }
 
-// Items with what was measured of them once. Where there are tails, those at k are the measure of
-// the last k items.
+// Items in one row, or those of two trees, one behind the other.
+#[cycle(value)]
+#[derive(Debug, Drop)]
+pub(crate) enum Shape {
+    Leaf(Vec<Value>),
+    Fork(Tree, Tree),
+}
+
+// Items with their number and what was measured of them once. The height serves the balance alone.
 #[cycle(value)]
 #[derive(Debug, Drop)]
 pub(crate) struct ItemsNode {
-    pub(crate) items: Vec<Value>,
-    pub(crate) whole: ItemsMeasure,
-    pub(crate) tails: Vec<ItemsMeasure>,
+    pub(crate) len: usize,
+    pub(crate) height: u64,
+    pub(crate) measure: ItemsMeasure,
+    pub(crate) shape: Shape,
 }
 
-/// The items of a list or a vector: those of a node, which many values may share, from a place on.
+// Items in a balanced tree of nodes, each of which many trees may share.
+#[cycle(value)]
+#[derive(Debug, Drop)]
+pub(crate) struct Tree {
+    pub(crate) node: Arc<ItemsNode>,
+}
+
+impl Model for Tree {
+    ghost use Rattle.value_data.specs.Inside.Held.{TreeData, tree_code};
+
+    ghost Value = { TreeData };
+
+    ghost coded = { tree_code };
+
+    ghost use Rattle.std.specs.Arc.{arc_value};
+    ghost use Rattle.value_data.specs.Inside.Nodes.{seen, KeepsItems};
+
+    ghost view = { λ a. seen (arc_value a.node) };
+
+    ghost invariant = { λ a. KeepsItems (arc_value a.node) };
+
+    ghost size = { λ t. t.held };
+
+    ghost use Rattle.value_data.specs.Inside.Falls.{shape-falls};
+
+    ghost size_decreases = { λ a h. shape-falls a.node.value.shape };
+}
+
+/// The items of a list or a vector, in a tree of nodes that many values may share.
 #[cycle(value)]
 #[derive(Debug, Drop)]
 pub struct Sequence {
-    pub(crate) node: Arc<ItemsNode>,
-    pub(crate) start: usize,
+    pub(crate) tree: Tree,
 }
 
 impl Model for Sequence {
@@ -66,18 +101,15 @@ impl Model for Sequence {
 
     ghost coded = { sequence_code };
 
-    ghost use Rattle.std.specs.Arc.{arc_value};
-    ghost use Rattle.value_data.specs.Inside.Nodes.{seen_from, KeepsItems};
+    ghost use Rattle.value_data.specs.Inside.Nodes.{seen_items};
 
-    ghost view = { λ a. seen_from (arc_value a.node) a.start };
-
-    ghost invariant = { λ a. KeepsItems (arc_value a.node) a.start };
+    ghost view = { λ a. seen_items a.tree };
 
     ghost size = { λ s. s.held };
 
-    ghost use Rattle.value_data.specs.Inside.Falls.{items-fall};
+    ghost use Rattle.std.proofs.Common.{arith};
 
-    ghost size_decreases = { λ a h. items-fall a.node.value.items.items };
+    ghost size_decreases = { λ a h. omega arith };
 }
 
 // Pairs in the order in which they were put in, with their places in the order of their keys and

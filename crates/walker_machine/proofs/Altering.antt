@@ -4,7 +4,7 @@ use Rattle.std.proofs.Common.{List, [], ◌∷◌, refl, sym}
 use Rattle.std.specs.Prelude.{string_bytes, is_some, Box}
 use Rattle.std.specs.Global.{Global}
 use Rattle.value_data.specs.Datum.{Datum, symbol}
-use Rattle.value_data.specs.Inside.View.{view}
+use Rattle.value_data.specs.Inside.View.{view, views}
 use Rattle.value_data.specs.declared.value.Value.{Value}
 use Rattle.repl_values.specs.Failure.{Failure, too_many_calls, wrong_arity, not_a_function}
 use Rattle.core_functions.specs.declared.function.CoreFunction.{CoreFunction}
@@ -14,7 +14,6 @@ use Rattle.repl_asks.specs.Transactions.{RefNameData}
 use Rattle.repl_asks.specs.Exchange.{NamedFunctionData, core_function, store_function}
 use Rattle.repl_asks.specs.Inside.View.{named_view}
 use Rattle.repl_asks.specs.declared.answer.NamedFunction.{NamedFunction}
-use Rattle.special_forms.specs.Inside.Seen.{views}
 use Rattle.store_calls.specs.Calling.{altered_in, altering, updating}
 use Rattle.store_calls.specs.declared.altering.Alteration.{Alteration}
 use Rattle.store_calls.specs.declared.sending.Dispatch.{Dispatch}

@@ -9,7 +9,7 @@ use Rattle.std.proofs.lemmas.List.{map-append, length-map}
 use Rattle.std.proofs.lemmas.Bool.Decides.{nat_tests}
 use Rattle.value_data.specs.Datum.{Datum, Items, no_items, item, Pairs, list, vector, map}
 use Rattle.value_data.specs.Listed.{listed}
-use Rattle.value_data.specs.Inside.View.{view}
+use Rattle.value_data.specs.Inside.View.{view, views}
 use Rattle.value_data.specs.declared.value.Value as value
 use Rattle.value_data.proofs.Lists.{lists}
 use Rattle.value_data.proofs.Views.{value_views}
@@ -18,7 +18,7 @@ use Rattle.special_forms.proofs.Sizes.{datum_size-pos, datum_size-list, datum_si
 use Rattle.special_forms.proofs.Sizes.{datum_size-map}
 use Rattle.special_forms.specs.Functions.{FunctionData}
 use Rattle.special_forms.specs.Rows.{BoundForm, in_a_row}
-use Rattle.special_forms.specs.Inside.Seen.{views, forms_view, let_binding_view}
+use Rattle.special_forms.specs.Inside.Seen.{forms_view, let_binding_view}
 use Rattle.special_forms.specs.declared.forms.LetBinding.{LetBinding}
 use Rattle.special_forms.specs.declared.forms.Forms.{Forms}
 use Rattle.evaluation_rules.specs.Doing.{Kept, Doing, Part}

@@ -5,7 +5,8 @@ use Rattle.repl_asks.specs.Exchange.{AnswerData}
 use Rattle.repl_asks.specs.Inside.View.{ask_view}
 use Rattle.repl_asks.specs.InteractionTree.{InteractionTree, finished, asks}
 use Rattle.repl_asks.specs.Inside.Jobs.{end_view, finished_view}
-use Rattle.special_forms.specs.Inside.Seen.{views, function_view}
+use Rattle.special_forms.specs.Inside.Seen.{function_view}
+use Rattle.value_data.specs.Inside.View.{views}
 use Rattle.evaluation_rules.specs.Tree.{ends}
 use Rattle.evaluation_rules.specs.Applying.{body_value}
 use Rattle.evaluation_rules.specs.Evaluation.{value_at}

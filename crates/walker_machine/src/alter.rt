@@ -2,10 +2,9 @@
 #![tactic(auto, using(walker_state::proofs::Stepping::steps))]
 
 ghost use Rattle.std.specs.Prelude.{◌≡◌, ◌<◌, IfOk};
-ghost use Rattle.value_data.specs.Inside.View.{view};
+ghost use Rattle.value_data.specs.Inside.View.{view, views};
 ghost use Rattle.repl_asks.specs.Exchange.{core_function};
 ghost use Rattle.repl_asks.specs.Inside.View.{name_view, named_view};
-ghost use Rattle.special_forms.specs.Inside.Seen.{views};
 ghost use Rattle.evaluation_rules.specs.Calls.{alter_call, commute_applied, commuting_value};
 ghost use Rattle.evaluation_rules.specs.Evaluation.{value_at};
 ghost use Rattle.walker_state.specs.Pending.{from_state, tree};

@@ -2,11 +2,11 @@
 #![tactic(auto, using(walker_state::proofs::Stepping::steps))]
 
 ghost use Rattle.std.specs.Prelude.{◌≡◌, ◌+◌, ◌<◌, IfOk};
-ghost use Rattle.value_data.specs.Inside.View.{view};
+ghost use Rattle.value_data.specs.Inside.View.{view, views};
 ghost use Rattle.walker_state.specs.Frames.{callee_view, call_behind, items_behind};
 ghost use Rattle.walker_state.specs.Pending.{place_of, from_state, tree};
 ghost use Rattle.special_forms.specs.Inside.Bindings.{bindings_in};
-ghost use Rattle.special_forms.specs.Inside.Seen.{views, forms_view};
+ghost use Rattle.special_forms.specs.Inside.Seen.{forms_view};
 ghost use Rattle.special_forms.specs.Inside.Size.{forms_size, bindings_size};
 ghost use Rattle.walker_state.specs.Position.{LeadsOnWithin};
 ghost use Rattle.evaluation_rules.specs.Evaluation.{value_at};

@@ -3,10 +3,10 @@
 #![tactic(auto, using(walker_state::proofs::Stepping::steps))]
 
 ghost use Rattle.std.specs.Prelude.{◌≡◌, ◌+◌, ◌<◌, IfOk};
-ghost use Rattle.value_data.specs.Inside.View.{view};
+ghost use Rattle.value_data.specs.Inside.View.{view, views};
 ghost use Rattle.repl_asks.specs.Exchange.{store_function};
 ghost use Rattle.repl_asks.specs.Inside.View.{named_view};
-ghost use Rattle.special_forms.specs.Inside.Seen.{views, forms_view};
+ghost use Rattle.special_forms.specs.Inside.Seen.{forms_view};
 ghost use Rattle.special_forms.specs.Inside.Size.{forms_size};
 ghost use Rattle.store_calls.specs.Calling.{updating};
 ghost use Rattle.evaluation_rules.specs.Calls.{named_call, update_call};

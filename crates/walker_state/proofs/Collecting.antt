@@ -9,13 +9,12 @@ use Rattle.core_functions.specs.ApplyOutcome.{limited_outcome, most_nesting}
 use Rattle.value_data.specs.Datum.{Datum, Items, no_items, item, Pairs, map}
 use Rattle.value_data.specs.Keyed.{keys_of}
 use Rattle.value_data.specs.Repeats.{is_one_of, repeat_behind, first_repeat}
-use Rattle.value_data.specs.Inside.View.{view}
+use Rattle.value_data.specs.Inside.View.{view, views}
 use Rattle.value_data.specs.Listed.{items_of, pairs_of}
 use Rattle.value_data.specs.Inside.BuiltView.{IsBuilt}
 use Rattle.value_data.specs.Inside.Held.{TableData}
 use Rattle.value_data.specs.declared.building.Built.{Built}
 use Rattle.value_data.specs.declared.value.Value.{Value}
-use Rattle.special_forms.specs.Inside.Seen.{views}
 use Rattle.repl_values.specs.Failure.{Failure, duplicate_key, too_large}
 use Rattle.evaluation_rules.specs.Doing.{Part, fails}
 use Rattle.evaluation_rules.specs.Tree.{ends}

@@ -5,7 +5,7 @@ use Rattle.std.proofs.Common.{Err, IfOk, List, refl, sym, ap, ◌∙◌, length,
 use Rattle.std.proofs.lemmas.List.{length-map}
 use Rattle.std.proofs.lemmas.Bool.Decides.{nat_tests}
 use Rattle.value_data.specs.Datum.{Datum}
-use Rattle.value_data.specs.Inside.View.{view}
+use Rattle.value_data.specs.Inside.View.{view, views}
 use Rattle.value_data.specs.declared.value.Value as value
 use Rattle.value_data.proofs.Views.{value_views}
 use Rattle.repl_values.specs.declared.fault.Fault.{Fault}
@@ -18,7 +18,6 @@ use Rattle.core_functions.specs.Inside.View.{FailsIn}
 use Rattle.core_functions.specs.ApplyOutcome as outcomes
 use Rattle.core_functions.specs.ApplyOutcome.{ApplyOutcome, bounded_outcome}
 use Rattle.core_scalars.specs.Limits.{most_text}
-use Rattle.special_forms.specs.Inside.Seen.{views}
 use Rattle.evaluation_rules.specs.Doing.{Part}
 use Rattle.evaluation_rules.specs.Tree.{ends}
 use Rattle.evaluation_rules.specs.Applying.{printed_value, outcome, core_applied, core_call}

@@ -8,7 +8,7 @@ use Rattle.core_functions.specs.StoreNames.{store_name_of}
 use Rattle.repl_asks.specs.Sends.{NamedFunctionData, SendingData}
 use Rattle.repl_asks.specs.Exchange.{AskData, permission_in}
 use Rattle.repl_asks.specs.InteractionTree.{asks}
-use Rattle.special_forms.specs.Inside.Seen.{views}
+use Rattle.value_data.specs.Inside.View.{views}
 use Rattle.store_calls.specs.Arguments.{agent_in}
 use Rattle.store_calls.specs.Calling.{dispatching}
 use Rattle.store_calls.specs.Inside.View.{addressed_view}

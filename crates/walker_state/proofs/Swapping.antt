@@ -11,7 +11,7 @@ use Rattle.repl_asks.specs.Exchange.{AskData, NamedFunctionData, AnswerData, rea
 use Rattle.repl_asks.specs.Exchange.{value_in}
 use Rattle.repl_asks.specs.Inside.View.{named_view}
 use Rattle.repl_asks.specs.InteractionTree.{asks}
-use Rattle.special_forms.specs.Inside.Seen.{views}
+use Rattle.value_data.specs.Inside.View.{views}
 use Rattle.store_calls.specs.Arguments.{atom_in}
 use Rattle.store_calls.specs.Inside.View.{swapped_view}
 use Rattle.store_calls.specs.declared.outcome.Swapped.{Swapped}

@@ -3,7 +3,7 @@ use Rattle.std.specs.Prelude.{drop, ℕ, zero, suc, List, [], ◌∷◌, ◌++�
 use Rattle.std.specs.Prelude.{if◌then◌else◌}
 use Rattle.std.specs.Arc.{arc_str_bytes}
 use Rattle.value_data.specs.Datum.{Datum, nil, list, no_items}
-use Rattle.value_data.specs.Inside.View.{view}
+use Rattle.value_data.specs.Inside.View.{view, views}
 use Rattle.repl_values.specs.Failure as failures
 use Rattle.repl_asks.specs.Transactions.{RefNameData}
 use Rattle.repl_asks.specs.Exchange.{bound_value, ResolutionData, NamedFunctionData}
@@ -11,7 +11,7 @@ use Rattle.repl_asks.specs.Inside.View.{commute_view, name_view, named_view, res
 use Rattle.repl_asks.specs.declared.answer.Resolution.{Resolution}
 use Rattle.special_forms.specs.Inside.Bindings.{bindings_in}
 use Rattle.special_forms.specs.Truth.{is_truthy}
-use Rattle.special_forms.specs.Inside.Seen.{views, forms_view}
+use Rattle.special_forms.specs.Inside.Seen.{forms_view}
 use Rattle.store_calls.specs.declared.altering.Alteration.{Alteration}
 use Rattle.store_calls.specs.declared.updating.Update.{Update}
 use Rattle.evaluation_rules.specs.Doing.{Kept, Doing, gave, left, Part, ◌>>=◌, pure_part, fails}

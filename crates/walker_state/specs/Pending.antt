@@ -2,14 +2,14 @@
 use Rattle.std.specs.Prelude.{ℕ, List, ◌∷◌, true, false, Err, string_bytes}
 use Rattle.std.specs.Arc.{arc_str_bytes, arc_value}
 use Rattle.value_data.specs.Datum.{Datum, nil}
-use Rattle.value_data.specs.Inside.View.{view}
+use Rattle.value_data.specs.Inside.View.{view, views}
 use Rattle.repl_values.specs.Inside.FaultView.{failure_of}
 use Rattle.repl_asks.specs.Exchange.{AnswerData, ResolutionData, resolution_in, value_in}
 use Rattle.repl_asks.specs.Exchange.{reading_in, VerdictData, verdict_in, permission_in}
 use Rattle.repl_asks.specs.Inside.View.{ask_view, name_view, sending_view}
 use Rattle.repl_asks.specs.declared.answer.Resolution.{Resolution}
 use Rattle.repl_asks.specs.InteractionTree.{InteractionTree, asks}
-use Rattle.special_forms.specs.Inside.Seen.{views, forms_view, function_view}
+use Rattle.special_forms.specs.Inside.Seen.{forms_view, function_view}
 use Rattle.tx_attempt.specs.Accesses.{nothing_noted}
 use Rattle.evaluation_rules.specs.Doing.{Kept, Doing, Part, ◌>>=◌, pure_part}
 use Rattle.evaluation_rules.specs.Tree.{with_attempt, ends, written_tree}

@@ -1,7 +1,8 @@
 // Arguments of calls, and the names of functions of the program.
 ghost use Rattle.std.specs.Prelude.{◌≡◌, [], map, IfOk, string_bytes};
 ghost use Rattle.std.specs.Arc.{arc_str_bytes};
-ghost use Rattle.special_forms.specs.Inside.Seen.{views, function_view};
+ghost use Rattle.special_forms.specs.Inside.Seen.{function_view};
+ghost use Rattle.value_data.specs.Inside.View.{views};
 ghost use Rattle.evaluation_rules.specs.Applying.{bound_to, full_name, get_arguments};
 
 use repl_values::{Value, copy_text};

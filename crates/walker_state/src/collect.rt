@@ -2,11 +2,10 @@
 #![tactic(auto, using(crate::proofs::Stepping::steps))]
 
 ghost use Rattle.std.specs.Prelude.{◌≡◌, ◌<◌, map, zip, IfOk};
-ghost use Rattle.value_data.specs.Inside.View.{view, pair_view};
+ghost use Rattle.value_data.specs.Inside.View.{view, pair_view, views};
 ghost use Rattle.walker_state.specs.Pending.{from_state, tree};
 ghost use Rattle.walker_state.specs.Frames.{collection_value};
 ghost use Rattle.walker_state.specs.declared.frames.State.{State};
-ghost use Rattle.special_forms.specs.Inside.Seen.{views};
 ghost use Rattle.walker_state.specs.Position.{LeadsOnWithin};
 ghost use Rattle.evaluation_rules.specs.Collections.{keys_in, map_value, values_in, within_limits};
 

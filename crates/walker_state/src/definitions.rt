@@ -1,7 +1,7 @@
 // Which definitions are refused, and which forms are definitions.
 ghost use Rattle.std.specs.Prelude.{◌≡◌, Some, None, if◌then◌else◌, option_map, IfOk};
 ghost use Rattle.value_data.specs.Datum.{Items, item, list};
-ghost use Rattle.value_data.specs.Inside.View.{view, items_view};
+ghost use Rattle.value_data.specs.Inside.View.{view};
 ghost use Rattle.repl_asks.specs.Namespaces.{is_fixed};
 ghost use Rattle.repl_values.specs.Failure as failures;
 ghost use Rattle.repl_values.specs.declared.rule.Rule.{Rule};
@@ -12,7 +12,7 @@ ghost use Rattle.evaluation_rules.specs.SharedText as meant;
 
 use evaluation_rules::Occasion;
 use repl_asks::{Binding, is_fixed};
-use repl_values::{Fault, Rule, Value, broken_rule, is_plain, namespace_is_fixed};
+use repl_values::{Fault, Rule, Sequence, Value, broken_rule, is_plain, namespace_is_fixed};
 use special_forms::SpecialForm;
 use std::alloc::{AllocError, Global};
 
@@ -80,15 +80,15 @@ pub fn is_definition(form: &Value) -> bool
     ensures { result ≡ meant.is_definition (view form.now) }
 {
     match form {
-        Value::List(items) => begins_definition(items.as_slice()),
+        Value::List(items) => begins_definition(items),
         _other => false,
     }
 }
 
-fn begins_definition(items: &[Value]) -> bool
-    ensures { result ≡ meant.is_definition (list (items_view items.now)) }
+fn begins_definition(items: &Sequence) -> bool
+    ensures { result ≡ meant.is_definition (list items.now.items) }
 {
-    match items.first() {
+    match items.get(0) {
         Some(head) => names_definition(head),
         None => false,
     }

@@ -4,7 +4,7 @@
 
 ghost use Rattle.std.specs.Prelude.{◌≡◌, ◌<◌, IfOk};
 ghost use Rattle.repl_asks.specs.Inside.View.{ask_view, named_view, permission_view, sending_view};
-ghost use Rattle.special_forms.specs.Inside.Seen.{views};
+ghost use Rattle.value_data.specs.Inside.View.{views};
 ghost use Rattle.evaluation_rules.specs.Agents.{permitted_send, send_ask, send_call};
 ghost use Rattle.walker_state.specs.UnderWay.{is_running};
 ghost use Rattle.walker_state.specs.Pending.{from_state, tree};

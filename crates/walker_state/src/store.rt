@@ -3,10 +3,9 @@
 #![tactic(auto, using(crate::proofs::Stepping::steps))]
 
 ghost use Rattle.std.specs.Prelude.{◌≡◌, ◌<◌, IfOk};
-ghost use Rattle.value_data.specs.Inside.View.{view};
+ghost use Rattle.value_data.specs.Inside.View.{view, views};
 ghost use Rattle.repl_asks.specs.Inside.View.{commute_view, name_view, permission_view};
 ghost use Rattle.repl_asks.specs.Inside.View.{reading_view};
-ghost use Rattle.special_forms.specs.Inside.Seen.{views};
 ghost use Rattle.evaluation_rules.specs.Calls.{commute_noted};
 ghost use Rattle.evaluation_rules.specs.Refs.{ensured_read, held_value, permitted_value};
 ghost use Rattle.evaluation_rules.specs.Refs.{put_value, read_value};

@@ -3,9 +3,8 @@
 #![tactic(auto, using(crate::proofs::Stepping::steps))]
 
 ghost use Rattle.std.specs.Prelude.{◌≡◌, ◌<◌, IfOk};
-ghost use Rattle.value_data.specs.Inside.View.{view};
+ghost use Rattle.value_data.specs.Inside.View.{view, views};
 ghost use Rattle.repl_asks.specs.Inside.View.{named_view};
-ghost use Rattle.special_forms.specs.Inside.Seen.{views};
 ghost use Rattle.evaluation_rules.specs.Atoms.{settled_value, swap_call, tried_value};
 ghost use Rattle.evaluation_rules.specs.Evaluation.{value_at};
 ghost use Rattle.walker_state.specs.Frames.{swap_again};

@@ -1,10 +1,10 @@
 -- The data that asks, answers and a trace stand for.
 use Rattle.std.specs.Prelude.{List, map}
 use Rattle.std.specs.Arc.{arc_str_bytes, arc_value}
-use Rattle.value_data.specs.Inside.View.{owner_view, view}
+use Rattle.value_data.specs.Inside.View.{owner_view, view, views}
 use Rattle.value_data.specs.declared.value.RefName.{RefName}
 use Rattle.repl_values.specs.Inside.FaultView.{failure_of}
-use Rattle.special_forms.specs.Inside.Seen.{function_view, views}
+use Rattle.special_forms.specs.Inside.Seen.{function_view}
 use Rattle.repl_asks.specs.Transactions.{RefNameData, ChangeData, CommuteData, CommutedData}
 use Rattle.repl_asks.specs.Transactions.{IntentData}
 use Rattle.repl_asks.specs.Exchange.{BindingData, bound_value, bound_function, AskData, resolve}

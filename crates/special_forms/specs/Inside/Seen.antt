@@ -4,7 +4,6 @@ use Rattle.std.specs.Arc.{arc_str_bytes}
 use Rattle.value_data.specs.Datum.{Datum}
 use Rattle.value_data.specs.Listed.{listed}
 use Rattle.value_data.specs.Inside.View.{view}
-use Rattle.value_data.specs.declared.value.Value.{Value}
 use Rattle.special_forms.specs.Functions.{FunctionData}
 use Rattle.special_forms.specs.Rows.{BoundForm, in_a_row}
 use Rattle.special_forms.specs.Inside.Bindings.{bindings_in}
@@ -16,9 +15,6 @@ use Rattle.special_forms.specs.declared.forms.Forms.{Forms}
 use Rattle.special_forms.specs.declared.forms.LetBinding.{LetBinding}
 use Rattle.special_forms.specs.declared.function.Function.{Function}
 use Rattle.special_forms.specs.declared.shapes.Shape.{Shape}
-
-abbrev pub views : List Value → List Datum
-views = map view
 
 abbrev pub source_view : FormsHolder → List Datum
 source_view (FormsHolder.Items s) = listed s.items

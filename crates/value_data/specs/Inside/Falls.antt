@@ -2,10 +2,12 @@
 use Rattle.std.specs.Prelude.{ℕ, ◌+◌, ◌≤◌, max, List, [], ◌∷◌}
 use Rattle.std.proofs.Common.{arith}
 use denote.Param.Weighed.{most}
-use Rattle.value_data.specs.Inside.Nodes.{held_count, items_held, pairs_held}
+use Rattle.value_data.specs.Inside.Nodes.{held_count, items_held, held, pairs_held}
 use Rattle.value_data.specs.declared.value.Value.{Value}
 use Rattle.value_data.specs.declared.value.Value.TheVariants as is
-use Rattle.value_data.specs.declared.value.Sequence.TheDeep.{deep-Value}
+use Rattle.value_data.specs.declared.value.Shape.{Shape}
+use Rattle.value_data.specs.declared.value.Shape.TheVariants as shape
+use Rattle.value_data.specs.declared.value.Sequence.TheDeep.{deep-Value, deep-Shape}
 use Rattle.value_data.specs.declared.value.Sequence.TheShapes.{weighed-PairsNode-pairs-at-2}
 
 deep_le-held_count : (v : Value) → deep-Value v ≤ held_count v
@@ -28,8 +30,9 @@ most_le-items_held : (vs : List Value) → most deep-Value vs ≤ items_held vs
 most_le-items_held [] = omega arith
 most_le-items_held (v ∷ vs) = omega (arith, deep_le-held_count v, most_le-items_held vs)
 
-pub items-fall : (vs : List Value) → max (max (most deep-Value vs) 0) 0 ≤ items_held vs
-items-fall vs = omega (arith, most_le-items_held vs)
+pub shape-falls : (s : Shape) → max (max (deep-Shape s) 0) 0 ≤ held s
+shape-falls (shape.Leaf v) = omega (arith, most_le-items_held v.items)
+shape-falls (shape.Fork l r) = omega arith
 
 -- the depth of a pair
 abbrev deep_pair : Value × Value → ℕ

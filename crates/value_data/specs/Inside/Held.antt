@@ -1,9 +1,13 @@
--- What a shared node is seen as: what a program sees of it, and how many values stand in it at any
--- depth. The node may hold more than is seen, since the rest of a list stays in the list's node.
-use Rattle.std.specs.Prelude.{ℕ, refl}
-use Rattle.std.specs.Coded.{Coded, code_by, coded×, coded_ℕ}
-use Rattle.value_data.specs.Datum.{Items, Pairs}
-use Rattle.value_data.specs.Inside.Code.{items_code, pairs_code}
+-- What shared nodes are seen as: what a program sees of them, and how many nodes and values stand in
+-- them at any depth.
+use Rattle.std.specs.Prelude.{ℕ, List, refl}
+use Rattle.std.specs.Coded.{Coded, code_by, coded×, coded_ℕ, coded_list}
+use Rattle.value_data.specs.Datum.{Datum, Items, Pairs}
+use Rattle.value_data.specs.Inside.Code.{datum_code, items_code, pairs_code}
+
+pub record TreeData : Type 0 where
+  pub items : List Datum
+  pub held : ℕ
 
 pub record SequenceData : Type 0 where
   pub items : Items
@@ -12,6 +16,11 @@ pub record SequenceData : Type 0 where
 pub record TableData : Type 0 where
   pub pairs : Pairs
   pub held : ℕ
+
+abbrev pub tree_code : Coded TreeData
+tree_code =
+    code_by (List Datum × ℕ) (coded× (coded_list datum_code) coded_ℕ) (λ t. (t.items, t.held))
+    (λ p. record { items = p.0; held = p.1 }) (λ _. refl)
 
 abbrev pub sequence_code : Coded SequenceData
 sequence_code =

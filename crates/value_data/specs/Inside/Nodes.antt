@@ -1,16 +1,18 @@
 -- What the nodes hold, and what they keep of it.
-use Rattle.std.specs.Prelude.{◌≡◌, ℕ, ◌+◌, ◌<◌, ◌≤◌, true, List, [], ◌∷◌, length, drop}
-use Rattle.value_data.specs.Inside.Held.{SequenceData, TableData}
-use Rattle.value_data.specs.Inside.View.{items_view, pairs_view}
+use Rattle.std.specs.Prelude.{◌≡◌, ℕ, ◌+◌, ◌<◌, ◌^◌, true, List, [], ◌∷◌, ◌++◌, length}
+use Rattle.value_data.specs.Datum.{Datum}
+use Rattle.value_data.specs.Listed.{items_of}
+use Rattle.value_data.specs.Inside.Held.{TreeData, SequenceData, TableData}
+use Rattle.value_data.specs.Inside.View.{views, pairs_view}
 use Rattle.value_data.specs.Inside.Placed.{are_distinct}
 use Rattle.value_data.specs.Inside.Index.{Indexes}
 use Rattle.value_data.specs.Inside.Fits.{FitsItems, FitsPairs}
-use Rattle.value_data.specs.Inside.Tails.{AreTails}
 use Rattle.value_data.specs.declared.value.Value.{Value}
+use Rattle.value_data.specs.declared.value.Shape.{Shape}
 use Rattle.value_data.specs.declared.value.ItemsNode.{ItemsNode}
 use Rattle.value_data.specs.declared.value.PairsNode.{PairsNode}
 
--- how many values stand in a value, with those that its nodes hold and do not show
+-- how many nodes and values stand in a value
 abbrev pub held_count : Value → ℕ
 held_count (Value.List s) = 1 + s.held
 held_count (Value.Vector s) = 1 + s.held
@@ -25,22 +27,26 @@ abbrev pub pairs_held : List (Value × Value) → ℕ
 pairs_held [] = 0
 pairs_held (p ∷ ps) = held_count p.0 + held_count p.1 + pairs_held ps
 
--- the items from a place on
-abbrev pub seen_from : ItemsNode → ℕ → SequenceData
-seen_from n start = record {
-  items = items_view (drop start n.items.items);
-  held =
-      items_held n.items.items;
-}
+abbrev pub held : Shape → ℕ
+held (Shape.Leaf v) = items_held v.items
+held (Shape.Fork l r) = 1 + l.held + r.held
 
--- What is kept of the items, and, where there are tails, of what stands from each place on: the
--- last k items at k.
-pub record KeepsItems (n : ItemsNode) (start : ℕ) : Type 0 where
-  pub whole : FitsItems n.whole (items_view n.items.items)
-  pub tails : AreTails n.tails.items n.items.items
-  pub all_or_none : 0 < length n.tails.items → length n.tails.items ≡ length n.items.items + 1
-  pub within : start ≤ length n.items.items
-  pub started : 0 < start → 0 < length n.tails.items
+-- the items from left to right
+abbrev pub shown : Shape → List Datum
+shown (Shape.Leaf v) = views v.items
+shown (Shape.Fork l r) = l.items ++ r.items
+
+abbrev pub seen : ItemsNode → TreeData
+seen n = record { items = shown n.shape; held = held n.shape }
+
+abbrev pub seen_items : TreeData → SequenceData
+seen_items t = record { items = items_of t.items; held = 1 + t.held }
+
+-- The number and the measure are those of the items. There are fewer than a vector has at most.
+pub record KeepsItems (n : ItemsNode) : Type 0 where
+  pub counted : n.len ≡ length (shown n.shape)
+  pub measured : FitsItems n.measure (shown n.shape)
+  pub bounded : n.len < 2 ^ 63
 
 abbrev pub seen_pairs : PairsNode → TableData
 seen_pairs n = record { pairs = pairs_view n.pairs.items; held = pairs_held n.pairs.items }

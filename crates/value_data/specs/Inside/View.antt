@@ -28,6 +28,9 @@ view (Value.Agent n) = agent n
 view (Value.Var space name) = var (arc_str_bytes space) (arc_str_bytes name)
 view (Value.Fault class text) = fault (arc_str_bytes class) (arc_str_bytes text)
 
+abbrev pub views : List Value → List Datum
+views = each view
+
 abbrev pub items_view : List Value → Items
 items_view vs = items_of (each view vs)
 

@@ -1,7 +1,7 @@
 use Rattle.std.proofs.Common.{◌≡◌, map, drop}
 use Rattle.std.specs.Arc.{arc_str_bytes}
 use Rattle.special_forms.specs.Parameters.{parameter_names}
-use Rattle.special_forms.specs.Inside.Seen.{views}
+use Rattle.value_data.specs.Inside.View.{views}
 use Rattle.special_forms.proofs.Shaping.{with_front}
 use Rattle.special_forms.proofs.names.parameter_names.Given as goal
 

@@ -1,5 +1,5 @@
 use Rattle.std.proofs.Common.{◌≡◌, drop}
-use Rattle.special_forms.specs.Inside.Seen.{views}
+use Rattle.value_data.specs.Inside.View.{views}
 use Rattle.store_calls.specs.Calling.{agents_in}
 use Rattle.store_calls.proofs.Awaited.{behind}
 use Rattle.store_calls.proofs.agents.agents_of.Given as goal

@@ -1,5 +1,5 @@
 use Rattle.std.proofs.Common.{◌≡◌, length}
-use Rattle.special_forms.specs.Inside.Seen.{views}
+use Rattle.value_data.specs.Inside.View.{views}
 use Rattle.store_calls.specs.Arguments as meant
 use Rattle.store_calls.specs.Inside.View.{bounds_view}
 use Rattle.store_calls.proofs.bounds.bounds_in.Given as goal

@@ -1,4 +1,4 @@
-use Rattle.std.proofs.Common.{◌≡◌, ℕ, suc, false, List, drop, nat_cmp, sym, ap, ◌∙◌, add-one, arith}
+use Rattle.std.proofs.Common.{◌≡◌, ℕ, suc, ◌+◌, false, List, length, drop, nat_cmp, refl, sym, ap, ◌∙◌, add-one, arith}
 use Rattle.std.specs.Arc.{arc_value}
 use Rattle.std.specs.Ordering.{is_ne, ordering_then}
 use Rattle.value_data.specs.Datum.{map}
@@ -12,17 +12,90 @@ use Rattle.value_data.specs.Inside.Order.{order, sort_key, chain, sorted, rows}
 use Rattle.value_data.specs.Inside.Index.{row_at, rows_at}
 use Rattle.value_data.specs.declared.value.PairsNode.{PairsNode}
 use Rattle.value_data.specs.declared.value.Value.{Value}
-use Rattle.value_data.proofs.Ranked.{chain-end, chain-none, two-equal, equal-numbers, items-order, two-open-at, node-rows, node-within, rows-step, then-decided, then-open}
+use Rattle.value_data.proofs.Ranked.{chain-none, two-equal, equal-numbers, items-order, two-open-at, node-rows, node-within, rows-step, then-decided, then-open}
+use Rattle.value_data.specs.Listed.{listed}
+use Rattle.value_data.proofs.Chunks.{keys, keys-listed, keys-end, chunk-nodes, chunk-fits, chunks-order, length-parts}
 use Rattle.value_data.proofs.order.+compare.Goals as goal
 
+pub compare_chunks-loop-place-init : goal.compare_chunks-loop-place-init
+compare_chunks-loop-place-init t c = items-order c.args.left.now c.args.right.now
+
+pub compare_chunks-returns : goal.compare_chunks-returns
+compare_chunks-returns t c =
+    chain-none (λ (v : Value). sort_key (view v)) (λ (v : Value). sort_key (view v)) c.args.left.now c.args.right.now c.loop-place.place
+    (omega (arith, c.loop-place-test.false)) (omega (arith, c.loop-place-test.false, c.requires))
+    ∙ c.loop-place.invariant
+
 pub compare_items-loop-place-init : goal.compare_items-loop-place-init
-compare_items-loop-place-init t c = record { known = items-order c.args.left.now c.args.right.now; within = omega arith }
+compare_items-loop-place-init t c =
+    record { known = rw (keys-listed c.args.left.now.items, keys-listed c.args.right.now.items) refl; within = omega arith }
+
+pub compare_items-compare_chunks-compared-requires : goal.compare_items-compare_chunks-compared-requires
+compare_items-compare_chunks-compared-requires t c =
+    let ours = c.chunk_from-ours.result.now in
+    let theirs = c.chunk_from-theirs.result.now in (
+      omega (arith, chunk-nodes ours c.args.left.now.items c.loop-place.place c.min-common.result c.chunk_from-ours.ensures.prefix (omega (arith, c.min-common.ensures))),
+      length-parts ours theirs c.min-common.result (omega (arith, c.min-common.ensures)) (omega (arith, c.min-common.ensures)),
+    )
+
+pub compare_items-returns-then-is_ne : goal.compare_items-returns-then-is_ne
+compare_items-returns-then-is_ne t c =
+    let ours = c.chunk_from-ours.result.now in
+    let theirs = c.chunk_from-theirs.result.now in
+    let left = listed c.args.left.now.items in
+    let right = listed c.args.right.now.items in
+    let place = c.loop-place.place in
+    let common = c.min-common.result in
+    let step =
+    chunks-order ours theirs left right place common c.chunk_from-ours.ensures.prefix c.chunk_from-theirs.ensures.prefix
+    (omega (arith, c.min-common.ensures)) (omega (arith, c.min-common.ensures)) in
+    then-decided c.compare_chunks-compared.result _ (order (keys (drop (place + common) left)) (keys (drop (place + common) right)))
+    (sym c.if-is_ne.true ∙ c.is_ne.ensures) c.compare_chunks-compared.ensures
+    ∙ sym step
+    ∙ c.loop-place.invariant.known
+
+pub compare_items-loop-place-preserved : goal.compare_items-loop-place-preserved
+compare_items-loop-place-preserved t c =
+    let ours = c.chunk_from-ours.result.now in
+    let theirs = c.chunk_from-theirs.result.now in
+    let left = listed c.args.left.now.items in
+    let right = listed c.args.right.now.items in
+    let place = c.loop-place.place in
+    let common = c.min-common.result in
+    let step =
+    chunks-order ours theirs left right place common c.chunk_from-ours.ensures.prefix c.chunk_from-theirs.ensures.prefix
+    (omega (arith, c.min-common.ensures)) (omega (arith, c.min-common.ensures)) in
+    record {
+      known =
+          sym (then-open c.compare_chunks-compared.result _ (order (keys (drop (place + common) left)) (keys (drop (place + common) right)))
+          (sym c.if-is_ne.false ∙ c.is_ne.ensures) c.compare_chunks-compared.ensures)
+          ∙ sym step
+          ∙ c.loop-place.invariant.known;
+      within = omega (
+        arith,
+        c.min-common.ensures,
+        c.min-count.ensures,
+        c.len.ensures.count,
+        c.len-2.ensures.count,
+        c.loop-place-test.true,
+        chunk-fits ours left place c.chunk_from-ours.ensures.prefix,
+        chunk-fits theirs right place c.chunk_from-theirs.ensures.prefix,
+      );
+    }
 
 pub compare_items-returns : goal.compare_items-returns
 compare_items-returns t c =
+    let left = listed c.args.left.now.items in
+    let right = listed c.args.right.now.items in
+    let counts = c.min-count.ensures in
+    let ours = c.len.ensures.count in
+    let theirs = c.len-2.ensures.count in
+    let least = c.loop-place-test.false in
     c.cmp.ensures
-    ∙ chain-end (λ (v : Value). sort_key (view v)) (λ (v : Value). sort_key (view v)) c.args.left.now c.args.right.now c.loop-place.place
-    (omega (arith, c.loop-place-test.false, c.loop-place.auto.place-end)) c.loop-place.invariant.within
+    ∙ ap (λ (n : ℕ). nat_cmp n c.len-4.result) c.len-3.ensures.count
+    ∙ ap (λ (n : ℕ). nat_cmp (length left) n) c.len-4.ensures.count
+    ∙ keys-end left right c.loop-place.place (omega (arith, counts, ours, theirs, c.loop-place.invariant.within))
+    (omega (arith, counts, ours, theirs, c.loop-place.invariant.within)) (omega (arith, counts, ours, theirs, least))
     ∙ c.loop-place.invariant.known
 
 pub compare_maps-compare_rows-requires : goal.compare_maps-compare_rows-requires

@@ -1,8 +1,7 @@
 use Rattle.std.proofs.Common.{refl, rules}
-use Rattle.value_data.specs.Inside.View.{view}
+use Rattle.value_data.specs.Inside.View.{view, views}
 use Rattle.value_data.proofs.Views.{value_views}
 use Rattle.repl_asks.specs.Inside.View.{name_view, named_view}
-use Rattle.special_forms.specs.Inside.Seen.{views}
 use Rattle.walker_machine.proofs.Evaluating.{if_ok-turned}
 use Rattle.walker_machine.proofs.Altering.{alter_step-calls, alter_step-commutes}
 use Rattle.walker_machine.proofs.alter.call_altering.Goals as goal

@@ -1,9 +1,9 @@
 use Rattle.std.proofs.Common.{ap, sym}
-use Rattle.value_data.specs.Inside.View.{view}
+use Rattle.value_data.specs.Inside.View.{view, views}
 use Rattle.evaluation_rules.specs.Doing.{Kept, Doing}
 use Rattle.walker_state.specs.Pending.{whole, place_of, next_of, kept_of}
 use Rattle.walker_state.specs.Frames.{callee_view}
-use Rattle.special_forms.specs.Inside.Seen.{views, forms_view}
+use Rattle.special_forms.specs.Inside.Seen.{forms_view}
 use Rattle.walker_machine.proofs.Evaluating.{call_step, form-taken}
 use Rattle.walker_machine.proofs.rows.next_argument.Goals as goal
 

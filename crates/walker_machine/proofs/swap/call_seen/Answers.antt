@@ -1,8 +1,7 @@
 use Rattle.std.proofs.Common.{◌≡◌, ◌∙◌, ◌∷◌, ap, arith, refl, rules}
-use Rattle.value_data.specs.Inside.View.{view}
+use Rattle.value_data.specs.Inside.View.{view, views}
 use Rattle.value_data.proofs.Views.{value_views}
 use Rattle.repl_asks.specs.Exchange.{NamedFunctionData}
-use Rattle.special_forms.specs.Inside.Seen.{views}
 use Rattle.evaluation_rules.specs.Applying.{function_called}
 use Rattle.evaluation_rules.specs.Evaluation.{value_at}
 use Rattle.walker_state.specs.Pending.{from_state}

@@ -7,8 +7,8 @@ use Rattle.evaluation_rules.specs.Doing.{Kept, Doing}
 use Rattle.evaluation_rules.specs.Applying.{named_callee}
 use Rattle.walker_state.specs.Pending.{next_of, place_of}
 use Rattle.walker_state.specs.Frames.{call_behind}
-use Rattle.value_data.specs.Inside.View.{view}
-use Rattle.special_forms.specs.Inside.Seen.{views, forms_view}
+use Rattle.value_data.specs.Inside.View.{view, views}
+use Rattle.special_forms.specs.Inside.Seen.{forms_view}
 use Rattle.walker_machine.proofs.Evaluating.{if_ok-turned, form-taken, none-taken}
 use Rattle.walker_machine.proofs.Altering.{update-none, update-alone, update-target}
 use Rattle.walker_machine.proofs.update.begin_update.Goals as goal

@@ -1,4 +1,4 @@
-use Rattle.special_forms.specs.Inside.Seen.{views}
+use Rattle.value_data.specs.Inside.View.{views}
 use Rattle.core_functions.specs.Meaning.{meaning}
 use Rattle.evaluation_rules.specs.Applying.{outcome}
 use Rattle.std.proofs.Common.{refl}

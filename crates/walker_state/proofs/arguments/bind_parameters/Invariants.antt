@@ -1,7 +1,7 @@
 use Rattle.std.proofs.Common.{◌≡◌, [], map, drop}
 use Rattle.std.specs.Arc.{arc_str_bytes}
 use Rattle.evaluation_rules.specs.Applying.{bound_to}
-use Rattle.special_forms.specs.Inside.Seen.{views}
+use Rattle.value_data.specs.Inside.View.{views}
 use Rattle.walker_state.proofs.arguments.bind_parameters.Given as goal
 
 abbrev pub invariant-loop-name : goal.invariant-loop-name

@@ -1,8 +1,7 @@
 use Rattle.std.proofs.Common.{◌≡◌, ◌++◌, length, map}
 use Rattle.std.specs.Prelude.{zip}
-use Rattle.value_data.specs.Inside.View.{pair_view}
+use Rattle.value_data.specs.Inside.View.{pair_view, views}
 use Rattle.evaluation_rules.specs.Collections.{keys_in, values_in}
-use Rattle.special_forms.specs.Inside.Seen.{views}
 use Rattle.walker_state.proofs.collect.by_turns.Given as goal
 
 abbrev pub invariant-loop-key : goal.invariant-loop-key

@@ -1,5 +1,5 @@
 use Rattle.std.proofs.Common.{◌<◌, length, sym, arith}
-use Rattle.special_forms.specs.Inside.Seen.{views}
+use Rattle.value_data.specs.Inside.View.{views}
 use Rattle.walker_state.proofs.Collecting.{if_ok-part}
 use Rattle.walker_state.proofs.Collecting.{made-of, repeats-of, map_value-made, repeat-within-keys, map_value-repeated}
 use Rattle.walker_state.proofs.collect.map_of.Goals as goal

@@ -1,9 +1,9 @@
-use Rattle.std.proofs.Common.{◌≡◌, ◌∙◌, sym, ap, max, ℕ, arith}
+use Rattle.std.proofs.Common.{◌≡◌, ◌∙◌, ◌&&◌, sym, ap, max, ℕ, arith}
 use Rattle.value_data.specs.Inside.View.{view}
 use Rattle.value_data.specs.Inside.Placed.{with_value}
 use Rattle.value_data.specs.Measures.{capped}
 use Rattle.value_data.specs.Inside.Hash.{hash, mixed, peak, salted, pair_hash}
-use Rattle.value_data.proofs.Replacing.{weight-within, weight-with, nesting-with, peak-with}
+use Rattle.value_data.proofs.Replacing.{weight-within, weight-with, nesting-with, plain-with, peak-with}
 use Rattle.value_data.proofs.node_measures.PairsMeasure.with_value.Goals as goal
 
 pub returns : goal.returns
@@ -14,6 +14,7 @@ returns c =
     let new = view c.args.new.now in
     let deep = nesting-with ps n key old new stands in
     let deepest = c.in_ok-greatest.ensures (capped deep.0) (omega (arith, fits.nested, deep.1, c.nesting.ensures)) in
+    let plain = plain-with ps n key old new stands in
     let hashed : c.mix-hashed.result ≡ mixed 9 (hash key) = c.mix-hashed.ensures ∙ ap (mixed 9) c.hash_of.ensures in
     let before : c.mix-before.result ≡ pair_hash (hash key) (hash old) =
     c.mix-before.ensures ∙ ap (λ (h : ℕ). mixed h c.hash_of-2.result) hashed ∙ ap (mixed (mixed 9 (hash key))) c.hash_of-2.ensures in
@@ -26,6 +27,11 @@ returns c =
     record {
       weighed = omega (arith, fits.weighed, weight-within ps n key old stands, weight-with ps n key old new stands);
       nested = omega (arith, deepest, deep.2, c.nesting-2.ensures);
+      all_plain =
+          c.in_ok-all.ensures plain.0
+          (fits.all_plain ∙ plain.1 ∙ ap (λ b. plain.0 && b) (sym c.is_plain.ensures))
+          ∙ ap (λ b. plain.0 && b) c.is_plain-2.ensures
+          ∙ sym plain.2;
       first = peaked 0xD6E8FEB86659FD93 c.args.self.first c.in_ok-peak.field-0 fits.first (λ m e. c.in_ok-peak.ensures m e);
       second = peaked 0x2917014799A6026D c.args.self.second c.in_ok-peak-2.field-0 fits.second (λ m e. c.in_ok-peak-2.ensures m e);
       third = peaked 0xBF58476D1CE4E5B9 c.args.self.third c.in_ok-peak-3.field-0 fits.third (λ m e. c.in_ok-peak-3.ensures m e);

@@ -1,0 +1,12 @@
+use Rattle.std.proofs.Common.{◌+◌, ◌*◌}
+use Rattle.value_data.specs.Inside.Nodes.{held}
+use Rattle.value_data.proofs.+change.Given as goal
+
+abbrev pub decreases-value::Tree::change : goal.decreases-value::Tree::change
+decreases-value::Tree::change l = 3 * l.self.now.held + 2
+
+abbrev pub decreases-value::Tree::change_owned : goal.decreases-value::Tree::change_owned
+decreases-value::Tree::change_owned l = 3 * l.self.now.held + 1
+
+abbrev pub decreases-changes::change_node : goal.decreases-changes::change_node
+decreases-changes::change_node l = 3 * held l.node.now.shape

@@ -1,0 +1,34 @@
+use Rattle.std.proofs.Common.{◌≡◌, ◌++◌, ◌-◌, List, take, drop, length, ap, sym, ◌∙◌, arith}
+use Rattle.value_data.specs.Datum.{Datum}
+use Rattle.value_data.specs.Inside.Held.{TreeData}
+use Rattle.value_data.specs.Inside.View.{views}
+use Rattle.value_data.specs.Inside.Nodes.{shown}
+use Rattle.value_data.specs.declared.value.Shape.{Shape}
+use Rattle.value_data.specs.declared.value.ItemsNode.{ItemsNode}
+use Rattle.value_data.specs.declared.value.Value.{Value}
+use Rattle.value_data.proofs.Rows.{chunk-views, length-views, drop-right}
+use Rattle.value_data.proofs.value.Tree.+chunk_from.Goals as goal
+
+pub returns-in-Leaf-clause-prefix : goal.returns-in-Leaf-clause-prefix
+returns-in-Leaf-clause-prefix t c =
+    let row = c.deref-in-Leaf.result.now in
+    let seen : c.args.self.now.items ≡ views row =
+    sym (ap (λ (d : TreeData). d.items) c.self.view_is)
+    ∙ ap (λ (n : ItemsNode). shown n.shape) (sym c.deref.ensures)
+    ∙ ap (λ (s : Shape). shown s) c.in-Leaf.is
+    ∙ ap (λ (vs : List Value). views vs) (sym c.deref-in-Leaf.ensures.value) in
+    let long = ap (λ (ds : List Datum). length ds) seen in
+    chunk-views row c.args.place (omega (arith, c.requires, long, length-views row))
+    ∙ ap (λ (ds : List Datum). take (length (take (length row - c.args.place) (drop c.args.place row))) (drop c.args.place ds)) (sym seen)
+
+pub returns-else-place-before-clause-prefix : goal.returns-else-place-before-clause-prefix
+returns-else-place-before-clause-prefix t c =
+    let l = c.in-Fork.left.items in
+    let r = c.in-Fork.right.items in
+    let seen : c.args.self.now.items ≡ l ++ r =
+    sym (ap (λ (d : TreeData). d.items) c.self.view_is)
+    ∙ ap (λ (n : ItemsNode). shown n.shape) (sym c.deref.ensures)
+    ∙ ap (λ (s : Shape). shown s) c.in-Fork.is in
+    (rw c.len-before.ensures.count at c.chunk_from-else-place-before.ensures.prefix)
+    ∙ ap (λ (ds : List Datum). take (length c.chunk_from-else-place-before.result.now) ds)
+    (sym (drop-right l r c.args.place (omega (arith, c.len-before.ensures.count, c.if-place-before.false))) ∙ ap (λ (ds : List Datum). drop c.args.place ds) (sym seen))
