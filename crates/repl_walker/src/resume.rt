@@ -1,6 +1,6 @@
 // An evaluation, from one ask to the next.
 ghost use Rattle.std.specs.Prelude.{◌≡◌, ◌≤◌, ◌++◌, ◌∷◌, [], IfOk, OnOk};
-ghost use Rattle.repl_asks.specs.Inside.View.{answer_view, trace_view};
+ghost use Rattle.repl_asks.specs.Inside.View.{ask_view, answer_view, trace_view};
 ghost use Rattle.repl_asks.specs.Inside.Jobs.{job_view};
 ghost use Rattle.evaluation_rules.specs.Evaluation.{evaluation};
 ghost use Rattle.walker_machine.specs.Waits.{reached_tree, most_calls_of, IsLaterReached};
@@ -13,7 +13,7 @@ ghost use Rattle.repl_walker.specs.Positions.{walk_position, most_calls, IsLater
 use crate::ending::Ending;
 use crate::waiting::{Progress, Walk};
 use evaluation_rules::CALLS;
-use repl_asks::{Answer, Exchange, Job, Trace};
+use repl_asks::{Answer, Ask, Exchange, Job, Trace};
 use std::alloc::{AllocError, Global};
 use walker_machine::{Reached, begin};
 
@@ -42,14 +42,24 @@ impl Walk {
     {
         let Walk {
             job,
-            mut trace,
+            trace,
             ask,
             waiting,
         } = self;
-        add(&mut trace, Exchange::of(ask, &answer)?)?;
+        let trace = with_exchange(trace, ask, &answer)?;
         let reached = waiting.go_on(alloc, answer)?;
         Ok(progress(job, trace, reached))
     }
+}
+
+// The trace with one exchange more.
+fn with_exchange(trace: Trace, ask: Ask, answer: &Answer) -> Result<Trace, AllocError>
+    ensures { IfOk result (λ longer. trace_view longer.items ≡ trace_view trace.items
+        ++ record { ask = ask_view ask; answer = answer_view answer.now } ∷ []) }
+{
+    let mut trace = trace;
+    add(&mut trace, Exchange::of(ask, answer)?)?;
+    Ok(trace)
 }
 
 // Most forms ask once, and who journals their endings keeps the room that a trace has: so the first

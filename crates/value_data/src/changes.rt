@@ -1,5 +1,5 @@
 // A change of one item.
-ghost use Rattle.std.specs.Prelude.{◌≡◌, ◌<◌, ◌≤◌, IfOk, length, is_ok, true, false, if◌then◌else◌};
+ghost use Rattle.std.specs.Prelude.{◌≡◌, ◌<◌, ◌≤◌, IfOk, IfSome, length, is_ok, true, false, if◌then◌else◌};
 ghost use Rattle.std.specs.List.{insert};
 ghost use Rattle.value_data.specs.Inside.View.{view, views};
 ghost use Rattle.value_data.specs.Inside.Fits.{FitsItems};
@@ -127,12 +127,11 @@ impl Tree {
     {
         match change {
             Change::Insert(value) => {
-                if self.is_full() {
-                    *self = self.widened(alloc, place, value)?;
-                    Ok(())
-                } else {
-                    self.change_owned(alloc, place, Change::Insert(value))
-                }
+                let Some(items) = self.full_leaf() else {
+                    return self.change_owned(alloc, place, Change::Insert(value));
+                };
+                *self = widened(alloc, self, items, place, value)?;
+                Ok(())
             }
             Change::Replace(value) => self.change_owned(alloc, place, Change::Replace(value)),
             Change::Remove => self.change_owned(alloc, place, Change::Remove),
@@ -160,32 +159,39 @@ impl Tree {
         Ok(())
     }
 
-    // Whether it is a leaf with no room.
-    fn is_full(&self) -> bool {
-        match &self.node.shape {
-            Shape::Leaf(items) => items.len() >= LEAF,
-            Shape::Fork(_, _) => false,
-        }
-    }
-
-    // A leaf with one more item, in a fork.
-    fn widened(&self, alloc: Global, place: usize, value: Value) -> Result<Tree, AllocError>
-        requires { place ≤ length self.now.items }
-        ensures { IfOk result (λ made. made.items ≡ insert self.now.items place (view value)) }
+    // The items of a leaf with no room.
+    fn full_leaf(&self) -> Option<&[Value]>
+        ensures { IfSome result (λ items. views items.now ≡ self.now.items) }
     {
-        if place == self.len() {
-            return fork(alloc, self.copy()?, single(alloc, value)?);
+        match &self.node.shape {
+            Shape::Leaf(items) if items.len() >= LEAF => Some(items),
+            _ => None,
         }
-        if place == 0 {
-            return fork(alloc, single(alloc, value)?, self.copy()?);
-        }
-        let Shape::Leaf(items) = &self.node.shape else {
-            return Err(AllocError);
-        };
-        let (before, behind) = items.split_at(place);
-        let first = leaf(alloc, share_items(alloc, before, 0)?)?;
-        let mut second = share_items(alloc, behind, 1)?;
-        second.insert(0, value)?;
-        fork(alloc, first, leaf(alloc, second)?)
     }
+}
+
+// A leaf of these items with one more, in a fork. Where that goes before or behind all of them the
+// leaf is shared.
+fn widened(
+    alloc: Global,
+    full: &Tree,
+    items: &[Value],
+    place: usize,
+    value: Value,
+) -> Result<Tree, AllocError>
+    requires same { views items.now ≡ full.now.items }
+    requires in_range { place ≤ length items.now }
+    ensures { IfOk result (λ made. made.items ≡ insert full.now.items place (view value)) }
+{
+    if place == items.len() {
+        return fork(alloc, full.copy()?, single(alloc, value)?);
+    }
+    if place == 0 {
+        return fork(alloc, single(alloc, value)?, full.copy()?);
+    }
+    let (before, behind) = items.split_at(place);
+    let first = leaf(alloc, share_items(alloc, before, 0)?)?;
+    let mut second = share_items(alloc, behind, 1)?;
+    second.insert(0, value)?;
+    fork(alloc, first, leaf(alloc, second)?)
 }

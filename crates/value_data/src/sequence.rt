@@ -4,23 +4,23 @@
 ghost use Rattle.std.specs.Prelude.{◌≡◌, ◌==◌, ◌<◌, ◌≤◌, ◌+◌, ◌^◌, ◌++◌, ◌∷◌, IfOk, length, map};
 ghost use Rattle.std.specs.Prelude.{take, drop, option_map, slice_get, slice_index_or};
 ghost use Rattle.value_data.specs.Datum.{item};
-ghost use Rattle.value_data.specs.Listed.{listed};
+ghost use Rattle.value_data.specs.Listed.{listed, items_of};
 ghost use Rattle.value_data.specs.Inside.View.{view, items_view};
 ghost use Rattle.value_data.specs.Measures.{capped, items_weight, items_nesting, are_plain};
 ghost use Rattle.value_data.specs.Inside.Hash.{items_hash};
 ghost use Rattle.value_data.specs.Inside.Ends.{with_last, behind_first};
 
-use crate::copies::share_items;
+use crate::reads::{chunk_from, copy_into, item_at};
 use crate::value::{Sequence, Tree, Value};
 use std::alloc::{AllocError, Global};
+use std::sync::Arc;
 
 impl Sequence {
     /// The items of the vector, measured once: one step for each. It fails only for want of memory.
     pub fn from_vec(alloc: Global, items: Vec<Value>) -> Result<Sequence, AllocError>
         ensures { IfOk result (λ made. made.items ≡ items_view items.items) }
     {
-        let tree = Tree::from_vec(alloc, items)?;
-        Ok(Sequence { tree })
+        Ok(Sequence::of(Tree::from_vec(alloc, items)?))
     }
 
     /// How many items there are.
@@ -28,7 +28,7 @@ impl Sequence {
         ensures count { result ≡ length (listed self.now.items) }
         ensures bound { result < 2 ^ 63 }
     {
-        self.tree.len()
+        self.node.len
     }
 
     /// Whether there is no item.
@@ -42,7 +42,11 @@ impl Sequence {
     pub fn get(&self, place: usize) -> Option<&Value>
         ensures { option_map (λ v. view v.now) result ≡ slice_get (listed self.now.items) place }
     {
-        self.tree.get(place)
+        if place < self.len() {
+            Some(self.at(place))
+        } else {
+            None
+        }
     }
 
     /// The item at a place that is one.
@@ -50,7 +54,7 @@ impl Sequence {
         requires { place < length (listed self.now.items) }
         ensures { view result.now ≡ slice_index_or (listed self.now.items) place (view result.now) }
     {
-        self.tree.at(place)
+        item_at(&self.node.shape, place)
     }
 
     /// Some of the items from a place on, which lie in one row: up to 32, and at least one.
@@ -60,7 +64,7 @@ impl Sequence {
         ensures prefix { map view result.now
             ≡ take (length result.now) (drop place (listed self.now.items)) }
     {
-        self.tree.chunk_from(place)
+        chunk_from(&self.node.shape, place)
     }
 
     /// The same items in a vector of their own: one step for each. It fails only for want of
@@ -68,7 +72,9 @@ impl Sequence {
     pub fn copies(&self, alloc: Global) -> Result<Vec<Value>, AllocError>
         ensures { IfOk result (λ copies. items_view copies.items ≡ self.now.items) }
     {
-        self.tree.copies(alloc)
+        let mut copies = Vec::with_capacity(alloc, self.len())?;
+        copy_into(&self.node.shape, &mut copies)?;
+        Ok(copies)
     }
 
     /// The same items. It takes one step and no memory, and fails only where 2^63 owners share
@@ -76,8 +82,9 @@ impl Sequence {
     pub fn copy(&self) -> Result<Sequence, AllocError>
         ensures { IfOk result (λ copied. copied ≡ self.now) }
     {
-        let tree = self.tree.copy()?;
-        Ok(Sequence { tree })
+        Ok(Sequence {
+            node: Arc::try_clone(&self.node)?,
+        })
     }
 
     /// The items and one more behind them. It takes a logarithm of steps, and shares all nodes but
@@ -86,18 +93,18 @@ impl Sequence {
     pub fn with_last(self, alloc: Global, last: Value) -> Result<Sequence, AllocError>
         ensures { IfOk result (λ made. made.items ≡ with_last self.items (view last)) }
     {
-        let Sequence { mut tree } = self;
+        let mut tree = self.into_tree();
         tree.push_back(alloc, last)?;
-        Ok(Sequence { tree })
+        Ok(Sequence::of(tree))
     }
 
     /// One more item and then the items, at the cost of one more behind them.
     pub fn with_first(self, alloc: Global, first: Value) -> Result<Sequence, AllocError>
         ensures { IfOk result (λ made. made.items ≡ item (view first) self.items) }
     {
-        let Sequence { mut tree } = self;
+        let mut tree = self.into_tree();
         tree.push_front(alloc, first)?;
-        Ok(Sequence { tree })
+        Ok(Sequence::of(tree))
     }
 
     /// The items with another at a place, or with one more behind them, at the same cost.
@@ -111,49 +118,63 @@ impl Sequence {
         ensures { IfOk result (λ made. listed made.items ≡ take place (listed self.items)
             ++ view value ∷ drop (place + 1) (listed self.items)) }
     {
-        let Sequence { mut tree } = self;
+        let mut tree = self.into_tree();
         if place < tree.len() {
             tree.set(alloc, place, value)?;
-            return Ok(Sequence { tree });
+            return Ok(Sequence::of(tree));
         }
         tree.push_back(alloc, value)?;
-        Ok(Sequence { tree })
+        Ok(Sequence::of(tree))
     }
 
     /// The items behind the first, or none where there is none, at the same cost.
     pub fn rest(self, alloc: Global) -> Result<Sequence, AllocError>
         ensures { IfOk result (λ made. made.items ≡ behind_first self.items) }
     {
-        let Sequence { mut tree } = self;
+        let mut tree = self.into_tree();
         tree.drop_first(alloc)?;
-        Ok(Sequence { tree })
+        Ok(Sequence::of(tree))
     }
 
     /// How large the items are, read from their node.
     pub fn weight(&self) -> u64
         ensures { result ≡ capped (items_weight self.now.items) }
     {
-        self.tree.measure().weight
+        self.node.measure.weight
     }
 
     /// How deep the items are, read from their node.
     pub fn nesting(&self) -> u64
         ensures { result ≡ capped (items_nesting self.now.items) }
     {
-        self.tree.measure().nesting
+        self.node.measure.nesting
     }
 
     /// Whether all items are plain, read from their node.
     pub fn is_plain(&self) -> bool
         ensures { result ≡ are_plain self.now.items }
     {
-        self.tree.measure().plain
+        self.node.measure.plain
     }
 
     /// What a list or a vector of these items hashes to, from what their node keeps.
     pub fn hash(&self) -> u64
         ensures { result ≡ items_hash 7 self.now.items }
     {
-        self.tree.measure().hash()
+        self.node.measure.hash()
+    }
+
+    fn of(tree: Tree) -> Sequence
+        ensures { result.items ≡ items_of tree.items }
+    {
+        let Tree { node } = tree;
+        Sequence { node }
+    }
+
+    fn into_tree(self) -> Tree
+        ensures { self.items ≡ items_of result.items }
+    {
+        let Sequence { node } = self;
+        Tree { node }
     }
 }

@@ -91,7 +91,7 @@ impl Model for Tree {
 #[cycle(value)]
 #[derive(Debug, Drop)]
 pub struct Sequence {
-    pub(crate) tree: Tree,
+    pub(crate) node: Arc<ItemsNode>,
 }
 
 impl Model for Sequence {
@@ -101,15 +101,18 @@ impl Model for Sequence {
 
     ghost coded = { sequence_code };
 
-    ghost use Rattle.value_data.specs.Inside.Nodes.{seen_items};
+    ghost use Rattle.std.specs.Arc.{arc_value};
+    ghost use Rattle.value_data.specs.Inside.Nodes.{seen_items, KeepsItems};
 
-    ghost view = { λ a. seen_items a.tree };
+    ghost view = { λ a. seen_items (arc_value a.node) };
+
+    ghost invariant = { λ a. KeepsItems (arc_value a.node) };
 
     ghost size = { λ s. s.held };
 
-    ghost use Rattle.std.proofs.Common.{arith};
+    ghost use Rattle.value_data.specs.Inside.Falls.{shape-falls};
 
-    ghost size_decreases = { λ a h. omega arith };
+    ghost size_decreases = { λ a h. shape-falls a.node.value.shape };
 }
 
 // Pairs in the order in which they were put in, with their places in the order of their keys and

@@ -39,8 +39,9 @@ shown (Shape.Fork l r) = l.items ++ r.items
 abbrev pub seen : ItemsNode → TreeData
 seen n = record { items = shown n.shape; held = held n.shape }
 
-abbrev pub seen_items : TreeData → SequenceData
-seen_items t = record { items = items_of t.items; held = 1 + t.held }
+-- the same as a list or a vector has them
+abbrev pub seen_items : ItemsNode → SequenceData
+seen_items n = record { items = items_of (shown n.shape); held = held n.shape }
 
 -- The number and the measure are those of the items. There are fewer than a vector has at most.
 pub record KeepsItems (n : ItemsNode) : Type 0 where

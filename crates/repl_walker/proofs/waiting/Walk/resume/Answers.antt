@@ -1,12 +1,11 @@
 use Rattle.repl_asks.specs.Inside.View.{ask_view, answer_view, trace_view}
 use Rattle.repl_asks.specs.Inside.Jobs.{job_view}
 use Rattle.walker_machine.specs.Waits.{tree_behind}
-use Rattle.repl_walker.proofs.Leading.{led-to-answered, trace-pushed}
+use Rattle.repl_walker.proofs.Leading.{led-to-answered}
 use Rattle.repl_walker.proofs.waiting.Walk.resume.Goals as goal
 
 pub progress-requires : goal.progress-requires
 progress-requires c =
     let w = c.args.self in
-    let grown = trace-pushed w.trace.items c.add.new.trace.items _ _ c.in_ok-add.ensures c.in_ok-of.ensures in
-    led-to-answered (job_view w.job) (trace_view w.trace.items) (trace_view c.add.new.trace.items) (ask_view w.ask) (answer_view c.args.answer)
-    (tree_behind w.waiting) _ w.led grown c.in_ok-reached.ensures.meaning
+    led-to-answered (job_view w.job) (trace_view w.trace.items) (trace_view c.in_ok-trace.trace.items) (ask_view w.ask) (answer_view c.args.answer)
+    (tree_behind w.waiting) _ w.led c.in_ok-trace.ensures c.in_ok-reached.ensures.meaning

@@ -1,7 +1,6 @@
 use Rattle.std.proofs.Common.{◌≡◌, ◌+◌, ◌++◌, ◌∷◌, length, take, drop, List, ap, sym, ◌∙◌, arith}
 use Rattle.value_data.specs.Datum.{Datum}
 use Rattle.value_data.specs.Listed.{listed}
-use Rattle.value_data.specs.Inside.Held.{SequenceData}
 use Rattle.value_data.specs.Inside.View.{view}
 use Rattle.value_data.proofs.Lists.{listed-of}
 use Rattle.value_data.proofs.Rows.{set-parts, last-parts}
@@ -9,19 +8,21 @@ use Rattle.value_data.proofs.value.Sequence.with_item.Goals as goal
 
 pub returns-then-place-len : goal.returns-then-place-len
 returns-then-place-len c =
-    let items = c.self.inside.tree.items in
-    listed-of c.set.new.self.items
+    let items = c.into_tree-tree.result.items in
+    ap listed c.of.ensures
+    ∙ listed-of c.set.new.self.items
     ∙ c.in_ok-set.ensures
     ∙ set-parts items c.args.place (view c.args.value) (omega (arith, c.if-place-len.true, c.len.ensures.count))
     ∙ ap (λ (ds : List Datum). take c.args.place ds ++ view c.args.value ∷ drop (c.args.place + 1) ds)
-    (sym (listed-of items) ∙ ap (λ (s : SequenceData). listed s.items) c.self.view_is)
+    (sym (ap listed c.into_tree-tree.ensures ∙ listed-of items))
 
 pub returns : goal.returns
 returns c =
-    let items = c.self.inside.tree.items in
-    let seen : listed c.args.self.items ≡ items = sym (sym (listed-of items) ∙ ap (λ (s : SequenceData). listed s.items) c.self.view_is) in
+    let items = c.into_tree-tree.result.items in
+    let seen : listed c.args.self.items ≡ items = ap listed c.into_tree-tree.ensures ∙ listed-of items in
     let long = ap (λ (ds : List Datum). length ds) seen in
-    listed-of c.push_back.new.self.items
+    ap listed c.of-2.ensures
+    ∙ listed-of c.push_back.new.self.items
     ∙ c.in_ok-push_back.ensures
     ∙ last-parts items c.args.place (view c.args.value) (omega (arith, c.if-place-len.false, c.len.ensures.count, c.requires, long))
     ∙ ap (λ (ds : List Datum). take c.args.place ds ++ view c.args.value ∷ drop (c.args.place + 1) ds) (sym seen)
