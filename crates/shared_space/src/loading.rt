@@ -83,6 +83,7 @@ fn evaluate(alloc: Global, teller: &mut Teller, form: &Value) -> Result<(), Load
 {
     let job = job_of(alloc, form)?;
     let outcome = walk(alloc, &job, teller);
+    drop(job);
     teller.has_told();
     match outcome {
         Ok(ending) => end_of(&ending),

@@ -1,14 +1,16 @@
 // An actor begins its next form, or takes up its next request; that of agents the next action.
-ghost use Rattle.std.specs.Prelude.{◌≡◌, ℕ, true, None, Some, option_map, IfOk, IfErr, ◌<◌, Err};
+ghost use Rattle.std.specs.Prelude.{◌≡◌, ℕ, true, false, None, Some, option_map, IfOk, IfErr, ◌<◌, Err};
+ghost use Rattle.std.specs.Prelude.{OnErr};
 ghost use Rattle.server_rules.specs.Ground.{Ground};
 ghost use Rattle.server_rules.specs.Request as rules;
 ghost use Rattle.server_rules.specs.Starting.{start_waiting, held_or, start_outcome, next_begun};
-ghost use Rattle.server_rules.specs.Tenant.{Quiet, actor_state};
+ghost use Rattle.server_rules.specs.Starting.{Started};
+ghost use Rattle.server_rules.specs.Tenant.{Quiet, actor_state, is_held};
 ghost use Rattle.server_rules.specs.Deeds.{start_of};
 ghost use Rattle.tenant_parts.specs.View.{actor_view, hand_view, waiting_view};
-ghost use Rattle.tenant_moves.specs.Starts.{hand_begun, answer_given, given_job};
+ghost use Rattle.tenant_moves.specs.Starts.{hand_begun, answer_given, given_job, GoesOn};
 ghost use Rattle.server_rules.specs.Grounds.{IsRight};
-ghost use Rattle.tenant_asks.specs.Memories.{Remembers};
+ghost use Rattle.tenant_asks.specs.Memories.{Remembers, opened_by};
 ghost use Rattle.tenant_world.specs.Answers.{start_answer_view, AreSameStarts};
 ghost use Rattle.tenant_asks.specs.Acting.{AcceptsOutcome, RefusesOutcome, IsActorStep};
 ghost use Rattle.tenant_world.specs.Acting.{oldest, with_next_in_hand};
@@ -93,7 +95,32 @@ fn start_form(
     let Some(hand) = &state.hand else {
         return Err(Refusal::Idle);
     };
-    let NextForm { news, begun } = next_form(alloc, retries, hand, session)?;
+    let next = next_form(alloc, retries, hand, session)?;
+    let answers = enter_form(alloc, memory, actor, state, next)?;
+    Ok(answers)
+}
+
+// The request in hand goes on by its next form. It fails only for want of memory, and then changes
+// nothing.
+fn enter_form(
+    alloc: Global,
+    memory: &mut Memory,
+    actor: Actor,
+    state: &mut ActorState,
+    next: NextForm,
+) -> Result<StartAnswers, AllocError>
+    ensures acted { (g : Ground) (t : ℕ) (q : Quiet) (h : rules.Hand) (start : Started)
+        → Remembers g t memory.old q → is_held q ≡ false → (actor_view state.old).hand ≡ Some h
+        → GoesOn start h next → IfOk result (λ s. AcceptsOutcome g t actor q
+        (held_or q (start_outcome actor (actor_view state.old) start q))
+        memory.new (actor_view state.new) (start_answer_view s.given)) }
+    ensures stays { (g : Ground) (t : ℕ) (q : Quiet) → Remembers g t memory.old q
+        → OnErr result (Remembers g t memory.new q) }
+    ensures kept { OnErr result (actor_view state.new ≡ actor_view state.old) }
+    ensures opened { opened_by memory.new ≡ opened_by memory.old }
+    ensures same { IfOk result AreSameStarts }
+{
+    let NextForm { news, begun } = next;
     let noted = begun_answer(&begun)?;
     memory.post_news(actor, news)?;
     let given = put_begun(alloc, state, begun);

@@ -30,8 +30,8 @@ returns-in-Ok-clause-fault c = λ e evaluates.
     (exchanges c.args.teller.now) ending.trace new ending.end evaluates c.in_ok-job.ensures m.1
     c.has_told.ensures m.2)) (c.end_of.ensures.fault (shared_from nothing_shared new))
 
-pub returns-clause-fault : goal.returns-clause-fault
-returns-clause-fault c = λ e evaluates.
+pub returns-in-Err-Stopped-clause-fault : goal.returns-in-Err-Stopped-clause-fault
+returns-in-Err-Stopped-clause-fault c = λ e evaluates.
     let left = subst (λ why. LeftAt (evaluation (job_view c.in_ok-job.job))
     (exchanges c.args.teller.now) (exchanges c.walk-outcome.new.refs) why) c.in-Err-Stopped.field-0-is
     c.in-Err-Stopped.ensures.left_at in

@@ -1,7 +1,7 @@
 #!/usr/bin/env python3
 """Measures what one call on a large collection costs, in microseconds, and prints a table.
 
-    tools/collections.py [--reference JAR]
+    tools/collection_costs.py [--reference JAR]
 
 A var holds the collection, so each call makes a new value beside it. Counted is the processor time
 of the built server, of which that of as many calls `(inc 1)` is taken: what is left is what the
