@@ -1,0 +1,4 @@
+pub mod Beginnings
+pub mod Adding
+pub mod Telling
+pub mod Seeing
