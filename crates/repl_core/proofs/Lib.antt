@@ -17,6 +17,7 @@ pub mod AskedPoints
 pub mod ActorSteps
 pub mod WorldSteps
 pub mod FormSteps
+pub mod KeptForms
 pub mod AttemptTraces
 pub mod HonestTraces
 pub mod AttemptBodies

@@ -1,5 +1,6 @@
 -- The machine as it begins stands for the server to which nobody came.
-use Rattle.std.proofs.Common.{◌≡◌, ◌∙◌, ℕ, [], refl, sym, ap, subst, List, None, Ok, Result}
+use Rattle.std.proofs.Common.{◌≡◌, ◌∙◌, ◌⊎◌, inl, inr, ℕ, [], refl, sym, ap, subst, List, None, Ok, Err}
+use Rattle.std.proofs.Common.{Result}
 use Rattle.std.specs.List.{AllByRecursion}
 use Rattle.value_data.specs.Datum.{shared, tenant}
 use Rattle.repl_values.specs.Failure.{Failure}
@@ -13,7 +14,10 @@ use Rattle.tenant_parts.specs.Sound.{IsSound, AreSound}
 use Rattle.shared_space.specs.Holding.{HoldsRefs}
 use Rattle.shared_space.specs.Loaded.{IsLoaded}
 use Rattle.shared_space.specs.declared.space.SharedSpace.{SharedSpace}
+use Rattle.evaluation_rules.specs.Evaluation.{evaluation}
+use Rattle.server_rules.specs.Readings.{Readings, AreRight}
 use Rattle.repl_core.specs.Configured.{IsConfigured, text_of}
+use Rattle.repl_core.specs.Starting.{HasFault}
 use Rattle.repl_core.specs.Standing.{MachineStands, around_in, is_reached}
 use Rattle.repl_core.specs.TenantAt.{tenant_at}
 use Rattle.repl_core.specs.declared.machine.Config.{Config}
@@ -71,3 +75,18 @@ stands-first g config m space it first loaded =
       newest = λ u. ap (λ n. is_reached n u) (sym first.newest);
       places_taken = sym first.places_taken;
     }
+
+not-both : {X : Type 0} (s : SharedData) (f : Failure) (r : Result SharedData Failure)
+    → r ≡ Ok s → r ≡ Err f → X
+not-both s f r one other = absurd (cc)
+
+-- a text that came to something has no fault
+pub there-is : (config : Config) (space : SharedSpace)
+    → ((g : Ground) × IsConfigured g config) ⊎ HasFault config
+    → ((r : Readings) → AreRight r
+    → IsLoaded (shared_by_text r evaluation (text_of config.shared)) space)
+    → (g : Ground) × IsConfigured g config
+there-is config space (inl it) loaded = it
+there-is config space (inr h) loaded =
+    let so = loaded h.readings h.right in
+    not-both so.0 h.failure (shared_by_text h.readings evaluation (text_of config.shared)) so.1 h.faults

@@ -11,6 +11,7 @@ pub mod Commits
 pub mod Points
 pub mod AttemptsUnderWay
 pub mod Forms
+pub mod Kept
 pub mod HonestRuns
 pub mod DosyncSettings
 pub mod AttemptsInRuns

@@ -10,6 +10,7 @@ use Rattle.server_rules.specs.declared.actor.Actor.{Actor}
 use Rattle.server_rules.specs.declared.refusal.Refusal.{Refusal}
 use Rattle.repl_core.specs.Going.{AreWalkedIn, AcceptsHonestStep, RefusesHonestStep, is_seen_step}
 use Rattle.repl_core.specs.Grounds.{Evaluates}
+use Rattle.repl_core.specs.Kept.{EndsAsKept}
 use Rattle.repl_core.specs.Standing.{MachineStands, open_in}
 use Rattle.repl_core.specs.Steps.{AcceptsStep, RefusesStep, is_accepted_step}
 use Rattle.repl_core.specs.declared.machine.Machine.{Machine}
@@ -30,6 +31,21 @@ DeclinesStep s old new result = (g : Ground) (w : World) → IsRight g → Machi
 abbrev pub StepLacksMemory : {A : Type 0} → Step → Machine → Result A Refusal → Type 0
 StepLacksMemory s old result = (g : Ground) (w : World) → IsRight g → MachineStands g old w
     → result ≡ Err Refusal.NoMemory → is_accepted_step (step g w s) ≡ true
+
+-- The same of a step that, where it ends a form, ends it by the job and the trace that are kept.
+
+abbrev pub DoesKnown : {A E : Type 0} → Step → Machine → Machine → Result A E
+    → (A → StepAnswer) → Type 0
+DoesKnown s old new result answer = (g : Ground) (w : World) → IsRight g → MachineStands g old w
+    → EndsAsKept w s → IfOk result (λ x. AcceptsStep g w s new (answer x))
+
+abbrev pub DeclinesKnown : {A : Type 0} → Step → Machine → Machine → Result A Refusal → Type 0
+DeclinesKnown s old new result = (g : Ground) (w : World) → IsRight g → MachineStands g old w
+    → EndsAsKept w s → IfErr result (RefusesStep g w s new)
+
+abbrev pub KnownLacksMemory : {A : Type 0} → Step → Machine → Result A Refusal → Type 0
+KnownLacksMemory s old result = (g : Ground) (w : World) → IsRight g → MachineStands g old w
+    → EndsAsKept w s → result ≡ Err Refusal.NoMemory → is_accepted_step (step g w s) ≡ true
 
 -- The same of an actor that goes on as its evaluation says. The evaluations of its tenant's forms
 -- are lent before and behind it.

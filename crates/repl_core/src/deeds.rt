@@ -27,6 +27,7 @@ impl Machine {
     ghost use Rattle.repl_core.specs.Standing.{MachineStands};
     ghost use Rattle.repl_core.specs.Steps.{is_accepted_step};
     ghost use Rattle.repl_core.specs.Promises.{DoesStep, DeclinesStep, StepLacksMemory};
+    ghost use Rattle.repl_core.specs.Promises.{DoesKnown, DeclinesKnown, KnownLacksMemory};
 
     /// A tenant hears a piece of its stream.
     pub fn hear(&mut self, number: u64, piece: &Bytes) -> Result<usize, Refusal>
@@ -45,8 +46,8 @@ impl Machine {
         tenant.hear(piece)
     }
 
-    /// An actor begins its next form, or takes up its next request.
-    pub(crate) fn start(&mut self, number: u64, actor: Actor) -> Result<StartAnswers, Refusal>
+    /// An actor begins its next form, or takes up its next request. What it is answered comes twice.
+    pub fn start(&mut self, number: u64, actor: Actor) -> Result<StartAnswers, Refusal>
         ensures done { DoesStep (does number (starts actor)) self.old self.new result
             (λ it. start_answer_view it.given) }
         ensures refused { DeclinesStep (does number (starts actor)) self.old self.new result }
@@ -59,8 +60,8 @@ impl Machine {
         tenant.start_copied(actor)
     }
 
-    /// The form of an actor that runs asks this.
-    pub(crate) fn answer_ask(
+    /// The form of an actor that runs asks this. What it is answered comes twice.
+    pub fn answer_ask(
         &mut self,
         number: u64,
         actor: Actor,
@@ -86,7 +87,7 @@ impl Machine {
     }
 
     /// The form of an actor that runs has ended so.
-    pub(crate) fn end_form(
+    pub fn end_form(
         &mut self,
         number: u64,
         actor: Actor,
@@ -110,8 +111,29 @@ impl Machine {
         tenant.end_form(actor, &parts)
     }
 
+    /// The same of an ending that is known to be the form's, with the job and the trace that are
+    /// kept of it. Nothing is compared.
+    pub(crate) fn end_known(
+        &mut self,
+        number: u64,
+        actor: Actor,
+        ending: &Ending,
+    ) -> Result<EndAnswer, Refusal>
+        ensures done { DoesKnown (does number (ends actor (ending_view ending.now))) self.old
+            self.new result end_answer_view }
+        ensures refused { DeclinesKnown (does number (ends actor (ending_view ending.now)))
+            self.old self.new result }
+        ensures no_memory { KnownLacksMemory (does number (ends actor (ending_view ending.now)))
+            self.old result }
+    {
+        let Some(tenant) = self.tenants.get_mut(number) else {
+            return Err(Refusal::NoSuchTenant);
+        };
+        tenant.finish(actor, ending.end())
+    }
+
     /// A tenant's oldest reply is taken out, and the same once more.
-    pub(crate) fn drain_copied(&mut self, number: u64) -> Result<Replies, Refusal>
+    pub fn drain_copied(&mut self, number: u64) -> Result<Replies, Refusal>
         ensures done { DoesStep (does number drains) self.old self.new result
             (λ it. reply_given it.given.items) }
         ensures refused { DeclinesStep (does number drains) self.old self.new result }

@@ -16,4 +16,5 @@ mod walks;
 pub use machine::{Config, Machine, PLACES, RETRIES, STEPS, SharedText};
 pub use shared_space::LoadError;
 pub use step::{Refused, Step, StepAnswer, StepAnswers};
+pub use stepping::{of_ask, of_end, of_start};
 pub use walks::Walks;

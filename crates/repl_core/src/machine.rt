@@ -1,5 +1,5 @@
 // The machine as it begins, and what it shows.
-ghost use Rattle.std.specs.Prelude.{◌≡◌, option_and_then, option_map, IfOk, IfErr};
+ghost use Rattle.std.specs.Prelude.{◌≡◌, option_and_then, option_map, IfOk, OnOk, IfErr};
 ghost use Rattle.server_rules.specs.Ground.{Ground};
 ghost use Rattle.server_rules.specs.Machine.Ready.{ready};
 ghost use Rattle.server_rules.specs.Machine.World.{World, opened_world};
@@ -8,6 +8,7 @@ ghost use Rattle.repl_core.specs.Starting.{TellsFault};
 ghost use Rattle.repl_core.specs.Standing.{open_in};
 ghost use Rattle.repl_core.specs.TenantAt.{tenant_at};
 
+use crate::laws::every_configuration_has_a_ground;
 use crate::tenants::Tenants;
 use name_spaces::SharedNames;
 use ref_history::RingHistory;
@@ -93,12 +94,14 @@ impl Machine {
     ghost use Rattle.repl_core.specs.Standing.{MachineStands};
 
     /// A server to which nobody came. The text that all share is evaluated; the first fault of it is
-    /// the error.
+    /// the error. Where there is none, there is something that such a server stands on.
     pub fn new(alloc: Global, config: &Config) -> Result<Machine, LoadError>
         ensures stands { (g : Ground) → IsConfigured g config.now
             → IfOk result (λ made. MachineStands g made (opened_world g)) }
+        ensures grounded { OnOk result ((g : Ground) × IsConfigured g config.now) }
         ensures fault { IfErr result (TellsFault config.now) }
     {
+        every_configuration_has_a_ground();
         let shared = load(alloc, config.shared.as_str())?;
         Ok(Machine {
             alloc,

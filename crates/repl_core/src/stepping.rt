@@ -20,7 +20,8 @@ impl Machine {
     ghost use Rattle.repl_core.specs.Standing.{MachineStands};
     ghost use Rattle.repl_core.specs.Points.{IsReadOfItsPoint};
     ghost use Rattle.repl_core.specs.Steps.{RefusesStep, is_accepted_step};
-    ghost use Rattle.repl_core.specs.Promises.{DoesStep, DeclinesStep};
+    ghost use Rattle.repl_core.specs.Promises.{DoesStep, DeclinesStep, DoesKnown, DeclinesKnown};
+    ghost use Rattle.repl_core.specs.Kept.{EndsAsKept};
 
     /// Makes a step. A step that is refused changes nothing, and is given back. In an attempt the
     /// answer to a read is what the ref held at the attempt's read point, or to read again.
@@ -99,6 +100,26 @@ impl Machine {
             }
         }
     }
+
+    /// Makes a step that is lent. Where it ends a form, the ending is known to be the form's: its
+    /// job and its trace are those that are kept, and nothing of it is compared.
+    pub fn make_known(&mut self, step: &Step) -> Result<StepAnswers, Refusal>
+        ensures done { DoesKnown (step_view step.now) self.old self.new result
+            (λ it. step_answer_view it.given) }
+        ensures refused { DeclinesKnown (step_view step.now) self.old self.new result }
+        ensures no_memory { (g : Ground) (w : World) → IsRight g → MachineStands g self.old w
+            → EndsAsKept w (step_view step.now) → counter_of self.old.refs < u128.MAX
+            → IfErr result (λ why. why ≡ Refusal.NoMemory
+            → is_accepted_step (worlds.step g w (step_view step.now)) ≡ true) }
+        ensures same { IfOk result AreSame }
+    {
+        match step {
+            Step::Ended(number, actor, ending) => {
+                Ok(of_ended(self.end_known(*number, *actor, ending)?))
+            }
+            _ => self.make(step),
+        }
+    }
 }
 
 fn of_started(started: StartAnswers) -> StepAnswers
@@ -111,7 +132,8 @@ fn of_started(started: StartAnswers) -> StepAnswers
     }
 }
 
-fn of_start(started: StartAnswer) -> StepAnswer
+/// What comes of a start, as an answer.
+pub fn of_start(started: StartAnswer) -> StepAnswer
     ensures { step_answer_view result ≡ start_answer_view started }
 {
     match started {
@@ -131,7 +153,8 @@ fn of_asked(asked: AskAnswers) -> StepAnswers
     }
 }
 
-fn of_ask(asked: AskAnswer) -> StepAnswer
+/// What comes of an ask, as an answer.
+pub fn of_ask(asked: AskAnswer) -> StepAnswer
     ensures { step_answer_view result ≡ ask_answer_view asked }
 {
     match asked {
@@ -150,7 +173,8 @@ fn of_ended(ended: EndAnswer) -> StepAnswers
     }
 }
 
-fn of_end(ended: EndAnswer) -> StepAnswer
+/// What comes of an end, as an answer.
+pub fn of_end(ended: EndAnswer) -> StepAnswer
     ensures { step_answer_view result ≡ end_answer_view ended }
 {
     match ended {
