@@ -56,7 +56,15 @@ use Rattle.repl_asks.specs.contracts.job.Finished as finished
 use Rattle.repl_walker.specs.contracts.ending.Ending as ending
 use Rattle.repl_core.specs.contracts.step.Step as step
 use Rattle.repl_core.specs.contracts.step.StepAnswer as step_answer
+use Rattle.tenant_asks.specs.contracts.answers.AskAnswer as ask_answer
+use Rattle.tenant_world.specs.contracts.answers.StartAnswer as start_answer
+use Rattle.journal_book.specs.contracts.entry.AcceptedStep as accepted_step
+use Rattle.journal_book.specs.contracts.entry.AnsweredAsk as answered_ask
+use Rattle.journal_book.specs.contracts.entry.HeardPiece as heard_piece
+use Rattle.journal_book.specs.contracts.entry.ResolvedSymbol as resolved_symbol
 use Rattle.journal_book.specs.contracts.entry.Entry as entry
+use Rattle.paged_list.specs.contracts.pages.Pages as pages
+use Rattle.paged_list.specs.contracts.pages.Pages.TheInside as pages_inside
 use Rattle.bencode_wire.specs.contracts.decoder.Decoder as decoder
 use Rattle.repl_replies.specs.contracts.reply.Origin as origin
 use Rattle.tenant_parts.specs.contracts.request.ProgramText as program_text
@@ -411,8 +419,48 @@ step-send =
 step_answer-send : IsSend step_answer.the_row
 step_answer-send = search (made, job-send, answer-send, heap.Vec-send) depth 30 fits 20000
 
+start_answer-send : IsSend start_answer.the_row
+start_answer-send = search (made, job-send) depth 30 fits 20000
+
+ask_answer-send : IsSend ask_answer.the_row
+ask_answer-send = search (made, answer-send) depth 30 fits 20000
+
+resolved_symbol-send : IsSend resolved_symbol.the_row
+resolved_symbol-send = search (made, text-send, resolution-send) depth 30 fits 20000
+
+answered_ask-send : IsSend answered_ask.the_row
+answered_ask-send = search (made, ask-send, ask_answer-send) depth 30 fits 20000
+
+heard_piece-send : IsSend heard_piece.the_row
+heard_piece-send = declared_send heard_piece.the_type (bytes-send, (search sendable, tt))
+
+accepted_step-send : IsSend accepted_step.the_row
+accepted_step-send = search (made, step-send, step_answer-send) depth 30 fits 20000
+
 entry-send : IsSend entry.the_row
-entry-send = search (made, step-send, step_answer-send) depth 30 fits 20000
+entry-send =
+    search (
+      made,
+      as_row_send,
+      number,
+      actor-send,
+      start_answer-send,
+      resolved_symbol-send,
+      answered_ask-send,
+      finished-send,
+      ending-send,
+      heard_piece-send,
+      accepted_step-send,
+      heap.Box-send,
+      heap.Vec-send,
+    ) depth 30 fits 20000
+
+pages-inside-send : (R : RattleType) → IsSend R → IsSend (pages_inside.the_row R)
+pages-inside-send R s = declared_send (pages_inside.the_type R)
+    (heap.send, (heap.Vec-send _ (heap.Vec-send R s), (heap.Vec-send R s, (number, tt))))
+
+pages-send : (R : RattleType) → IsSend R → IsSend (pages.the_row R)
+pages-send R s = search (view_send, pages-inside-send)
 
 origin-send : IsSend origin.the_row
 origin-send = search (made, ben-send, option-send) depth 30 fits 20000
@@ -711,7 +759,7 @@ module _ (L : RattleType) (g : ledger.Ghosts L.Denot) (s : IsSend L) where
     (
       config-send,
       (
-        heap.Vec-send _ entry-send,
+        pages-send _ entry-send,
         (
           machine-send,
           (

@@ -3,9 +3,9 @@ ghost use Rattle.std.specs.Prelude.{◌≡◌};
 
 use crate::client::{Client, DONE};
 use connection_crews::{Gate, Options, ServeError, serve};
-use journal_book::{Book, PARTS, Report};
+use journal_book::{Book, Entry, PARTS, Report};
 use repl_asks::Ask;
-use repl_core::{Config, RETRIES, STEPS, SharedText, Step, StepAnswer};
+use repl_core::{Config, RETRIES, STEPS, SharedText};
 use server_rules::Actor;
 use std::alloc::{AllocError, Global};
 use std::marker::Brand;
@@ -60,14 +60,24 @@ fn ask_both<R: Net<Stream = TcpStream>>(
 // All that the book says a tenant was given.
 fn drained<L: Ledger>(alloc: Global, book: &Book<L>, tenant: u64) -> Result<Vec<u8>, AllocError> {
     let mut all = Vec::new(alloc);
-    for entry in book.journal() {
-        if let (Step::Drain(number), StepAnswer::Bytes(bytes)) = (&entry.step, &entry.answer) {
+    let (full, last) = book.journal().pages();
+    for page in full {
+        add_drained(&mut all, page.as_slice(), tenant)?;
+    }
+    add_drained(&mut all, last, tenant)?;
+    Ok(all)
+}
+
+// What these entries say that a tenant was given, behind the bytes that are there.
+fn add_drained(all: &mut Vec<u8>, entries: &[Entry], tenant: u64) -> Result<(), AllocError> {
+    for entry in entries {
+        if let Entry::Drained(number, reply) = entry {
             if *number == tenant {
-                all.extend_from_slice(bytes.as_slice())?;
+                all.extend_from_slice(reply.as_slice())?;
             }
         }
     }
-    Ok(all)
+    Ok(())
 }
 
 fn expect_both<

@@ -3,3 +3,5 @@ pub mod Alone
 pub mod Keeping
 pub mod Counting
 pub mod FormsTold
+pub mod EndsTold
+pub mod Written

@@ -4,3 +4,5 @@ pub mod Standing
 pub mod Rows
 pub mod Alone
 pub mod Forms
+pub mod Tenants
+pub mod Inside

@@ -1,6 +1,6 @@
 // The book: the journal, the machine that stands for it, and the count of all steps.
-ghost use Rattle.std.specs.Prelude.{◌≡◌, ◌≢◌, ◌+◌, ◌*◌, ◌<◌, ◌≤◌, ◌^◌, ◌⊎◌, ℕ, [], ◌∷◌, ◌++◌, IfOk};
-ghost use Rattle.std.specs.Prelude.{IfErr, OnErr, OnOk, length, vec_len, vec_capacity};
+ghost use Rattle.std.specs.Prelude.{◌≡◌, ◌≢◌, ◌+◌, ◌*◌, ◌<◌, ◌≤◌, ◌^◌, ◌⊎◌, ℕ, [], IfOk};
+ghost use Rattle.std.specs.Prelude.{IfErr, OnErr, OnOk, length, vec_len};
 ghost use Rattle.std.specs.Prelude.{option_and_then, option_map};
 ghost use Rattle.server_rules.specs.Ground.{Ground};
 ghost use Rattle.server_rules.specs.Plan.{tenant_opened};
@@ -16,11 +16,13 @@ ghost use Rattle.journal_book.specs.Alone.{bytes_to, NamesNoSharedIn, IsHonest, 
 ghost use Rattle.journal_book.specs.Journal.{IsJournal};
 ghost use Rattle.journal_book.specs.View.{entries, seat_with};
 ghost use Rattle.journal_book.specs.Rows.{row, row_of, entries_of, counted_of, all_counted};
-ghost use Rattle.journal_book.specs.Standing.{KeepsFor, IsAnswered, IsRefused, Notes, entry};
+ghost use Rattle.journal_book.specs.Standing.{IsAnswered, IsRefused, Notes, entry};
 
 use crate::entry::Entry;
 use crate::report::Report;
 use crate::seat::Seat;
+use crate::writing::{open, write};
+use paged_list::Pages;
 use repl_core::{Config, LoadError, Machine, Refused, Step, StepAnswer};
 use server_rules::{Actor, Refusal, Wire};
 use std::alloc::Global;
@@ -43,7 +45,7 @@ pub const PARTS: u64 = 5_000_001;
 pub struct Book<L: Ledger> {
     alloc: Global,
     config: Config,
-    journal: Vec<Entry>,
+    journal: Pages<Entry>,
     machine: Machine,
     counts: ledger::Book<L>,
     rest: Share<L>,
@@ -51,7 +53,7 @@ pub struct Book<L: Ledger> {
 }
 
 impl<L: Ledger> Model for Book<L> {
-    ghost use Rattle.std.specs.Prelude.{◌≡◌, ◌+◌, ◌*◌, ◌≤◌, vec_len};
+    ghost use Rattle.std.specs.Prelude.{◌≡◌, ◌+◌, ◌*◌, ◌≤◌, length};
     ghost use Rattle.std.specs.Coded.{codes};
     ghost use Rattle.journal_book.specs.contracts.entry.Entry as kept;
     ghost use Rattle.journal_book.specs.View.{BookData, entries};
@@ -69,7 +71,7 @@ impl<L: Ledger> Model for Book<L> {
     } };
 
     ghost invariant = { λ b. KeepsFor b.config b.machine (entries b.journal.items)
-        × (b.counts.total ≡ vec_len b.journal)
+        × (b.counts.total ≡ length b.journal.items)
         × (b.rest.parts + 5 * b.tenants ≡ 5000001) × (b.rest.amount ≡ 0)
         × (b.tenants ≤ 1000000) };
 }
@@ -114,7 +116,7 @@ impl<L: Ledger> Book<L> {
         Ok(Book {
             alloc,
             config,
-            journal: Vec::new(alloc),
+            journal: Pages::new(alloc),
             machine,
             counts,
             rest,
@@ -155,10 +157,10 @@ impl<L: Ledger> Book<L> {
     }
 
     /// The steps that were accepted, with their answers, in order.
-    pub fn journal(&self) -> &[Entry]
-        ensures { result.now ≡ self.now.journal }
+    pub fn journal(&self) -> &Pages<Entry>
+        ensures { result.now.items ≡ self.now.journal }
     {
-        self.journal.as_slice()
+        &self.journal
     }
 
     /// The first actor of a tenant that has a form or a request to begin, if the tenant is open and
@@ -201,7 +203,7 @@ impl<L: Ledger> Book<L> {
             return Err(Refusal::Full);
         }
         let tenant = self.tenants;
-        open(&mut self.machine, &mut self.journal, tenant)?;
+        open(self.alloc, &mut self.machine, &mut self.journal, tenant)?;
         self.tenants += 1;
         let mut reader = Seat::taken_from(&mut self.rest, tenant);
         reader.count(&mut self.counts);
@@ -236,8 +238,8 @@ impl<L: Ledger> Book<L> {
         ensures stays { IfErr result (λ it. (self.new ≡ self.old) × (seat.new ≡ seat.old)
             × (it.step ≡ step)) }
     {
-        let place = self.journal.len() as u64;
-        let answer = write(&mut self.machine, &mut self.journal, step)?;
+        let place = self.journal.len();
+        let answer = write(self.alloc, &mut self.machine, &mut self.journal, step)?;
         seat.count(&mut self.counts);
         Ok(Receipt { place, answer })
     }
@@ -253,7 +255,7 @@ impl<L: Ledger> Book<L> {
             → all_counted seats.items ≡ length self.journal) }
         ensures refused { IfErr result (λ it. (it.book ≡ self) × (it.seats ≡ seats)) }
     {
-        let Ok(report) = Report::of(self.alloc, self.journal.as_slice(), seats.as_slice()) else {
+        let Ok(report) = Report::of(self.alloc, &self.journal, seats.as_slice()) else {
             return Err(Unclosed { book: self, seats });
         };
         let Book {
@@ -298,77 +300,4 @@ fn gather<L: Ledger>(counts: &mut ledger::Book<L>, all: &mut Share<L>, seats: Ve
         all.merge(seat.into_share());
     }
     counts.audit(all);
-}
-
-// Makes a step, and writes it down with its answer. Where it is refused nothing is written.
-fn write(machine: &mut Machine, journal: &mut Vec<Entry>, step: Step) -> Result<StepAnswer, Refused>
-    ensures keeps { (config : Config) → KeepsFor config machine.old (entries journal.old.items)
-        → KeepsFor config machine.new (entries journal.new.items) }
-    ensures journal { IfOk result (λ answer. entries journal.new.items
-        ≡ entries journal.old.items ++ entry (step_view step) (step_answer_view answer) ∷ []) }
-    ensures length { OnOk result (vec_len journal.new ≡ vec_len journal.old + 1) }
-    ensures answer { (config : Config) → KeepsFor config machine.old (entries journal.old.items)
-        → IfOk result (λ answer. IsAnswered config (entries journal.old.items) (step_view step)
-        (step_answer_view answer)) }
-    ensures refused { (config : Config) → KeepsFor config machine.old (entries journal.old.items)
-        → IfErr result (λ it. IsRefused config (entries journal.old.items) (step_view step)
-        it.why) }
-    ensures stays { IfErr result (λ it. (journal.new.items ≡ journal.old.items)
-        × (vec_len journal.new ≡ vec_len journal.old) × (it.step ≡ step)) }
-{
-    if journal.reserve(1).is_err() {
-        return Err(Refused {
-            why: Refusal::NoMemory,
-            step,
-        });
-    }
-    match machine.make(&step) {
-        Ok(answers) => {
-            let entry = Entry {
-                step,
-                answer: answers.noted,
-            };
-            note(journal, entry);
-            Ok(answers.given)
-        }
-        Err(why) => Err(Refused { why, step }),
-    }
-}
-
-// Opens a tenant, and writes it down. Where it is refused nothing is written.
-fn open(machine: &mut Machine, journal: &mut Vec<Entry>, tenant: u64) -> Result<(), Refusal>
-    ensures keeps { (config : Config) → KeepsFor config machine.old (entries journal.old.items)
-        → KeepsFor config machine.new (entries journal.new.items) }
-    ensures journal { OnOk result (entries journal.new.items
-        ≡ entries journal.old.items ++ entry (opens tenant) tenant_opened ∷ []) }
-    ensures length { OnOk result (vec_len journal.new ≡ vec_len journal.old + 1) }
-    ensures answer { (config : Config) → KeepsFor config machine.old (entries journal.old.items)
-        → OnOk result (IsAnswered config (entries journal.old.items) (opens tenant)
-        tenant_opened) }
-    ensures refused { (config : Config) → KeepsFor config machine.old (entries journal.old.items)
-        → IfErr result (IsRefused config (entries journal.old.items) (opens tenant)) }
-    ensures stays { OnErr result ((journal.new.items ≡ journal.old.items)
-        × (vec_len journal.new ≡ vec_len journal.old)) }
-{
-    if journal.reserve(1).is_err() {
-        return Err(Refusal::NoMemory);
-    }
-    machine.open(tenant)?;
-    let opening = Entry {
-        step: Step::Open(tenant),
-        answer: StepAnswer::Opened,
-    };
-    note(journal, opening);
-    Ok(())
-}
-
-// There is room for the entry.
-fn note(journal: &mut Vec<Entry>, entry: Entry)
-    requires { vec_len journal.old < vec_capacity journal.old }
-    ensures items { journal.new.items ≡ journal.old.items ++ entry ∷ [] }
-    ensures length { vec_len journal.new ≡ vec_len journal.old + 1 }
-{
-    let Ok(()) = journal.push(entry) else {
-        unreachable!()
-    };
 }

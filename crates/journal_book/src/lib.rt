@@ -4,10 +4,12 @@
 mod book;
 mod entry;
 pub mod laws;
+mod noting;
 mod report;
 mod seat;
+mod writing;
 
 pub use book::{Book, PARTS, Places, Receipt, TENANTS, Unclosed};
-pub use entry::Entry;
+pub use entry::{AcceptedStep, AnsweredAsk, Entry, HeardPiece, ResolvedSymbol};
 pub use report::{Report, Row};
 pub use seat::Seat;

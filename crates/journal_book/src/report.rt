@@ -1,10 +1,11 @@
 // The report of a book that is closed.
-ghost use Rattle.std.specs.Prelude.{◌≡◌, ◌≢◌, ◌%◌, ◌^◌, ℕ, IfOk, OnOk};
+ghost use Rattle.std.specs.Prelude.{◌≡◌, ◌≢◌, ◌+◌, ◌%◌, ◌^◌, ℕ, IfOk, OnOk, sum_by};
 ghost use Rattle.journal_book.specs.View.{entries};
-ghost use Rattle.journal_book.specs.Rows.{row, row_of, entries_of, counted_of};
+ghost use Rattle.journal_book.specs.Rows.{row, row_of, entries_of, entries_by, counted_of};
 
 use crate::entry::Entry;
 use crate::seat::Seat;
+use paged_list::Pages;
 use std::alloc::{AllocError, Global};
 use std::collections::BTreeMap;
 use std::sync::ledger::Ledger;
@@ -25,14 +26,14 @@ pub struct Report {
 
 impl Report {
     // It takes about the logarithm of the number of tenants for each entry and each seat, and fails
-    // only for want of memory.
+    // only for want of memory, or where a count does not fit 64 bits.
     pub(crate) fn of<L: Ledger>(
         alloc: Global,
-        journal: &[Entry],
+        journal: &Pages<Entry>,
         seats: &[Seat<L>],
     ) -> Result<Report, AllocError>
         ensures { IfOk result (λ report. (t : ℕ) → row_of t report
-            ≡ row (entries_of t (entries journal.now)) (counted_of t seats.now % 2 ^ 64)) }
+            ≡ row (entries_of t (entries journal.now.items)) (counted_of t seats.now % 2 ^ 64)) }
     {
         let mut report = Report {
             rows: BTreeMap::new(alloc),
@@ -42,16 +43,41 @@ impl Report {
         Ok(report)
     }
 
-    fn add_entries(&mut self, journal: &[Entry]) -> Result<(), AllocError>
+    fn add_entries(&mut self, journal: &Pages<Entry>) -> Result<(), AllocError>
         requires { (t : ℕ) → row_of t self.old ≡ row 0 0 }
         ensures { OnOk result ((t : ℕ) → row_of t self.new
-            ≡ row (entries_of t (entries journal.now)) 0) }
+            ≡ row (entries_of t (entries journal.now.items)) 0) }
     {
-        for i in 0..journal.len() {
-            let tenant = journal[i].step.tenant();
+        let (full, last) = journal.pages();
+        self.add_pages(full)?;
+        self.add_page(last)?;
+        Ok(())
+    }
+
+    fn add_pages(&mut self, pages: &[Vec<Entry>]) -> Result<(), AllocError>
+        ensures { OnOk result ((t : ℕ) → row_of t self.new
+            ≡ row ((row_of t self.old).journalled
+            + sum_by (λ page. entries_by t page.items) pages.now) (row_of t self.old).made) }
+    {
+        for i in 0..pages.len() {
+            self.add_page(pages[i].as_slice())?;
+        }
+        Ok(())
+    }
+
+    fn add_page(&mut self, page: &[Entry]) -> Result<(), AllocError>
+        ensures { OnOk result ((t : ℕ) → row_of t self.new
+            ≡ row ((row_of t self.old).journalled + entries_by t page.now)
+            (row_of t self.old).made) }
+    {
+        for i in 0..page.len() {
+            let tenant = page[i].tenant();
             let before = self.row(tenant);
+            let Some(journalled) = before.journalled.checked_add(1) else {
+                return Err(AllocError);
+            };
             let row = Row {
-                journalled: before.journalled + 1,
+                journalled,
                 made: before.made,
             };
             self.put(tenant, row)?;

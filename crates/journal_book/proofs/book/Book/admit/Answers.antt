@@ -1,8 +1,8 @@
-use Rattle.std.proofs.Common.{◌≡◌, ◌+◌, ◌*◌, ◌≤◌, ◌∙◌, sym, ap, subst, arith, inr}
+use Rattle.std.proofs.Common.{◌≡◌, ◌+◌, ◌*◌, ◌≤◌, ◌∙◌, length, sym, ap, subst, refl, arith, inr}
 use Rattle.server_rules.specs.Plan.{tenant_opened}
 use Rattle.server_rules.specs.Machine.World.{opens}
 use Rattle.journal_book.specs.View.{BookData, entries}
-use Rattle.journal_book.specs.Standing.{IsAnswered, IsRefused}
+use Rattle.journal_book.specs.Standing.{IsAnswered, IsRefused, Notes, entry}
 use Rattle.journal_book.proofs.Keeping.{err-so}
 use Rattle.journal_book.proofs.book.Book.admit.Goals as goal
 
@@ -10,7 +10,7 @@ pub invariant_of-self : goal.invariant_of-self
 invariant_of-self g c =
     let kept = c.self.invariant in (
       c.open.ensures.keeps c.self.inside.config kept.0,
-      kept.1 ∙ sym c.in_err-open.ensures.stays.1,
+      kept.1 ∙ ap length (sym c.in_err-open.ensures.stays),
       kept.2,
       kept.3,
       kept.4,
@@ -26,7 +26,7 @@ invariant_of-self-2 g c =
     let four = c.taken_from-writer.ensures.parts in
     let five = c.taken_from-runner.ensures.parts in (
       c.open.ensures.keeps c.self.inside.config kept.0,
-      c.count.ensures.total ∙ ap (λ n. n + 1) kept.1 ∙ sym c.in_ok-open.ensures.length,
+      c.count.ensures.total ∙ ap (λ n. n + 1) kept.1 ∙ sym c.in_ok-open.ensures.one.0,
       omega arith,
       c.taken_from-runner.ensures.amount,
       omega arith,
@@ -38,10 +38,24 @@ returns-in_err-open-clause-refused g c =
     let P : BookData → Type 0 = λ b. IsRefused b.config (entries b.journal) (opens b.tenants) why in
     err-so _ c.from_residual.result why c.from_residual.ensures.1
     (inr (subst P c.self.view_is
-    (c.in_err-open.ensures.refused c.self.inside.config c.self.invariant.0)))
+    (c.in_err-open.ensures.declined c.self.inside.config c.self.invariant.0)))
 
 pub returns-clause-answer : goal.returns-clause-answer
 returns-clause-answer g c =
     let P : BookData → Type 0 = λ b. IsAnswered b.config (entries b.journal) (opens b.tenants)
     tenant_opened in
-    subst P c.self.view_is (c.in_ok-open.ensures.answer c.self.inside.config c.self.invariant.0)
+    subst P c.self.view_is
+    (c.in_ok-open.ensures.written c.self.inside.config c.self.invariant.0).1
+
+pub returns-clause-journal : goal.returns-clause-journal
+returns-clause-journal g c =
+    let after : BookData = record {
+      config = c.self.inside.config;
+      journal = c.open.new.journal.items;
+      tenants = c.self.inside.tenants + 1;
+    } in
+    let P : BookData → Type 0 = λ b. Notes b after (entry (opens c.self.inside.tenants) tenant_opened) in
+    subst P c.self.view_is (record {
+      config = refl;
+      journal = (c.in_ok-open.ensures.written c.self.inside.config c.self.invariant.0).0;
+    })

@@ -9,9 +9,8 @@ returns-clause-rows g c = λ t.
     let seats = c.args.seats.items in
     let fits : counted_of t seats < 2 ^ 64 =
     lt_of_le_of_lt (counted-le t seats) c.gather.ensures.bound in
-    let journal = ap (λ js. entries_of t (entries js))
-    (c.as_slice.ensures.value ∙ ap (λ b. b.journal) c.self.view_is) in
-    let counted = ap (λ s. counted_of t s % 2 ^ 64) c.as_slice-2.ensures.value
+    let journal = ap (λ b. entries_of t (entries b.journal)) c.self.view_is in
+    let counted = ap (λ s. counted_of t s % 2 ^ 64) c.as_slice.ensures.value
     ∙ mod-eq_of_lt fits in
-    c.in-Ok.ensures t ∙ ap (λ n. row n (counted_of t c.as_slice-2.result.now % 2 ^ 64)) journal
+    c.in-Ok.ensures t ∙ ap (λ n. row n (counted_of t c.as_slice.result.now % 2 ^ 64)) journal
     ∙ ap (row (entries_of t (entries c.args.self.journal))) counted

@@ -16,7 +16,7 @@ returns-clause-steps g c =
     → bytes_to t (entries b.journal)
     ≡ serve ground (opened_world ground) (steps_of t (entries b.journal)) t in
     subst P c.self.view_is (λ ground t conf private.
-    let k = c.self.invariant.0 ground conf in
+    let k = c.self.invariant.0.1 ground conf in
     steps-alone ground t k.world journal k.leads private)
 
 pub returns-clause-turns : goal.returns-clause-turns
@@ -28,5 +28,5 @@ returns-clause-turns g c =
     → bytes_to t (entries b.journal)
     ≡ serve ground (opened_world ground) (turns_of t (entries b.journal)) t in
     subst P c.self.view_is (λ ground t conf private honest.
-    let k = c.self.invariant.0 ground conf in
+    let k = c.self.invariant.0.1 ground conf in
     turns-alone ground t k.world journal k.leads private honest)

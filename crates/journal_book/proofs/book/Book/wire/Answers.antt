@@ -23,7 +23,7 @@ returns-in_err-tenant g c =
     → None ≡ option_map (λ it. shows ground it.quiet) (open_in t w) in
     let gone = sym c.tenant.ensures ∙ ap (option_map (λ it. it.now)) c.in_err-tenant.was in
     let told = subst P c.self.view_is (λ ground w conf leads.
-    let k = c.self.invariant.0 ground conf in
+    let k = c.self.invariant.0.1 ground conf in
     told-so ground book.machine (entries book.journal.items) k w leads
     (λ x. None ≡ option_map (λ it. shows ground it.quiet) (open_in t x))
     (shown-none ground book.machine k.world t (shows ground) k.stands gone)) in
@@ -38,7 +38,7 @@ returns g c =
     → Some c.wire.result ≡ option_map (λ it. shows ground it.quiet) (open_in t w) in
     let there = sym c.tenant.ensures ∙ ap (option_map (λ it. it.now)) c.in_ok-tenant.was in
     subst P c.self.view_is (λ ground w conf leads.
-    let k = c.self.invariant.0 ground conf in
+    let k = c.self.invariant.0.1 ground conf in
     told-so ground book.machine (entries book.journal.items) k w leads
     (λ x. Some c.wire.result ≡ option_map (λ it. shows ground it.quiet) (open_in t x))
     (shown-some ground book.machine k.world t _ (shows ground) c.wire.result k.stands there

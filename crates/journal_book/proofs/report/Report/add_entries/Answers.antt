@@ -1,12 +1,11 @@
-use Rattle.std.proofs.Common.{◌≡◌, ◌∙◌, ap, arith}
-use Rattle.journal_book.proofs.Counting.{take-bound}
+use Rattle.std.proofs.Common.{◌∙◌, ap}
+use Rattle.journal_book.specs.View.{entries}
+use Rattle.journal_book.specs.Rows.{row, row_of, entries_of}
+use Rattle.journal_book.proofs.Counting.{rows-so}
 use Rattle.journal_book.proofs.report.Report.add_entries.Goals as goal
 
-pub overflow_add-row : goal.overflow_add-row
-overflow_add-row c =
-    let t = c.tenant-tenant.result in
-    let few = take-bound t c.loop-i.i c.args.journal.now in
-    let said = ap (λ row. row.journalled) (c.row-before.ensures ∙ c.loop-i.invariant.0 t) in
-    let within = c.loop-i-test.true in
-    let end = c.loop-i.auto.i-end in
-    omega arith
+pub returns : goal.returns
+returns c = λ t.
+    rows-so (λ page. page.items) t _ _ _ c.pages.result.0.now c.pages.result.1.now (c.requires t)
+    (c.in_ok-add_pages.ensures t) (c.in_ok-add_page.ensures t)
+    ∙ ap (λ es. row (entries_of t (entries es)) 0) c.pages.ensures
