@@ -101,6 +101,18 @@ def that_a_peer_which_sends_no_more_gets_all_its_replies(program):
         expect(peer.read(), REPLIES * 500)
 
 
+def that_all_sessions_are_answered_where_a_peer_sends_no_more(program):
+    connections = 100
+    with serving(program, connections) as address:
+        for _ in range(connections):
+            with Connection(address) as peer:
+                whose = [made_session(peer) for _ in range(3)]
+                evals = [{"code": "(+ 1 2)", "id": "7", "op": "eval", "session": it} for it in whose]
+                peer.send(b"".join(map(encoded, evals)))
+                peer.end()
+                expect(peer.read().count(b"4:done"), len(whose))
+
+
 def that_thousands_of_requests_may_be_sent_before_a_reply_is_read(program):
     with serving(program, 1) as address, Connection(address) as peer:
         sender = threading.Thread(target=peer.send, args=(REQUEST * 5000,))
@@ -182,6 +194,18 @@ def that_a_close_interrupts_what_waits(program):
         wanted = [[it["id"], "done", "interrupted"] for it in evals]
         wanted.append(["close", "done", "session-closed"])
         expect([it for it in ends if it is not slow], wanted)
+
+
+def that_a_slow_form_holds_up_no_other_request(program):
+    with serving(program, 1) as address, Connection(address) as peer:
+        one, other = made_session(peer), made_session(peer)
+        peer.asked({"code": SLOW, "id": "1", "op": "eval"})
+        peer.send(encoded({"code": "(f 10)", "id": "slow", "op": "eval", "session": one}))
+        peer.send(encoded({"id": "asked", "op": "ls-sessions"}))
+        expect(peer.reply()["id"], "asked")
+        peer.send(encoded({"code": "7", "id": "quick", "op": "eval", "session": other}))
+        came = [peer.reply()["id"] for _ in range(4)]
+        expect(came, ["quick", "quick", "slow", "slow"])
 
 
 def that_an_eval_takes_far_less_than_40_ms_where_it_is_acknowledged_late(program):

@@ -7,8 +7,8 @@ ghost use Rattle.connection_queue.specs.Numbers.{hand};
 use crate::desk::Desk;
 use crate::gate::Gate;
 use crate::moves::{Connection, bid_farewell, locked};
-use crate::reading::{read_away, read_pieces};
-use crate::working::{Duty, work};
+use crate::reading::read_away;
+use crate::working::{serve_actions, serve_requests};
 use crate::writing::write_what_waits;
 use connection_queue::{Takings, Ticket, take};
 use journal_book::{Book, Places, Seat};
@@ -22,7 +22,8 @@ use std::thread::Threads;
 // How many seats a tenant gets.
 const SEATS: usize = 5;
 
-/// Serves connections: for each one a reader, two workers, a runner of actions and a writer.
+/// Serves connections: for each one three threads that read and evaluate by turns, a runner of
+/// actions and a writer.
 #[derive(Drop)]
 pub struct Crew<L: Ledger, G: Drop> {
     pub(crate) alloc: Global,
@@ -96,16 +97,16 @@ impl<L: Ledger + Send + Sync, G: Gate + Drop + Send + Sync> Crew<L, G> {
             || {
                 thread::join(
                     rt,
-                    || work(rt, &connection, runner, Duty::Actions),
+                    || serve_actions(rt, &connection, runner),
                     || {
                         thread::join(
                             rt,
-                            || work(rt, &connection, other_worker, Duty::Requests),
+                            || serve_requests(rt, &connection, other_worker, false),
                             || {
                                 thread::join(
                                     rt,
-                                    || work(rt, &connection, worker, Duty::Requests),
-                                    || read_pieces(rt, &connection, reader),
+                                    || serve_requests(rt, &connection, worker, false),
+                                    || serve_requests(rt, &connection, reader, true),
                                 )
                             },
                         )

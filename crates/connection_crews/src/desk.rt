@@ -1,6 +1,19 @@
 // What the threads of a crew tell one another of a connection, beside the book.
 use std::sync::{Condvar, Mutex, Wait};
 
+/// What a thread of a crew evaluates.
+#[derive(Clone, Copy, PartialEq, Eq)]
+pub(crate) enum Duty {
+    /// What was asked for, in sessions and without one.
+    Requests,
+    /// The actions that were sent to agents.
+    Actions,
+}
+
+// How many forms of requests are evaluated at a time. There is one thread more for them, which
+// reads meanwhile.
+const MOST_FORMS: u64 = 2;
+
 /// What a thread of a crew waits for.
 #[derive(Clone, Copy)]
 pub(crate) enum Event {
@@ -10,7 +23,7 @@ pub(crate) enum Event {
     Room,
     /// Something was sent to agents, so that an action may have something to begin.
     Send,
-    /// An action ended or a message came, so that an await may be met.
+    /// An action ended, so that an await may be met.
     Turn,
 }
 
@@ -22,6 +35,24 @@ struct Count {
     waiting: u64,
 }
 
+/// Who is to go on behind messages that came.
+#[derive(Clone, Copy)]
+pub(crate) enum Call {
+    /// Nobody waits for them.
+    Nobody,
+    /// Who read them.
+    Reader,
+    /// Those who wait.
+    Others,
+}
+
+/// How often actions had ended and messages had come.
+#[derive(Clone, Copy)]
+pub(crate) struct Seen {
+    turns: u64,
+    requests: u64,
+}
+
 /// How it stands with a connection. Who holds both locks took the book's first.
 #[derive(Drop)]
 struct Signs {
@@ -31,10 +62,15 @@ struct Signs {
     turns: Count,
     // whether no action had anything to begin since the last was sent
     are_agents_at_rest: bool,
-    // how many evaluations are under way
-    evaluations: u64,
+    // whether the action that runs has asked often
+    is_action_long: bool,
+    // how many evaluations are under way: of forms, and of actions
+    forms: u64,
+    actions: u64,
     // whether the peer may send more
     is_reading: bool,
+    // whether a thread has taken it on to read
+    is_read: bool,
     // whether its stream has a fault
     is_broken: bool,
     // whether somebody writes: nobody else takes replies out meanwhile
@@ -73,6 +109,22 @@ impl Signs {
         }
     }
 
+    // Whether an await may be met that was not when so much had come: so many actions more ended, or
+    // some and no other ends soon; or a message came, which may close its session.
+    fn may_meet(&self, seen: Seen, least: u64) -> bool {
+        let ended = self.turns.came.wrapping_sub(seen.turns);
+        let ends_none_soon = self.are_agents_at_rest || self.is_action_long;
+        let are_enough = least <= ended || (0 < ended && ends_none_soon);
+        are_enough || self.requests.came != seen.requests
+    }
+
+    fn evaluations_mut(&mut self, duty: Duty) -> &mut u64 {
+        match duty {
+            Duty::Requests => &mut self.forms,
+            Duty::Actions => &mut self.actions,
+        }
+    }
+
     // Counts it once more, and tells whether somebody waits for it.
     fn note(&mut self, event: Event) -> bool {
         let count = self.count_mut(event);
@@ -101,8 +153,11 @@ impl Desk {
                 sends: Count::none(),
                 turns: Count::none(),
                 are_agents_at_rest: true,
-                evaluations: 0,
+                is_action_long: false,
+                forms: 0,
+                actions: 0,
                 is_reading: true,
+                is_read: true,
                 is_broken: false,
                 is_writing: false,
                 is_due: false,
@@ -145,6 +200,7 @@ impl Desk {
         signs.is_reading = false;
         signs.is_due = true;
         drop(signs);
+        self.requested.notify_all();
         self.due.notify_one();
     }
 
@@ -157,23 +213,63 @@ impl Desk {
     /// by what the peer asks for.
     pub(crate) fn may_send<R: Wait>(&self, rt: &R) -> bool {
         let signs = self.signs.lock(rt);
-        signs.is_reading || 0 < signs.evaluations
+        signs.is_reading || 0 < signs.forms || 0 < signs.actions
     }
 
-    /// So many messages came. Each may be a request, or close a session that awaits.
-    pub(crate) fn note_requests<R: Wait>(&self, rt: &R, count: usize) {
+    /// So many messages came. Each may be a request, or close a session that awaits. Answers who is to
+    /// go on: who read them begins what a single small one asks for, where another thread is free to
+    /// read.
+    pub(crate) fn note_messages<R: Wait>(&self, rt: &R, count: usize, is_small: bool) -> Call {
+        if count == 0 {
+            return Call::Nobody;
+        }
         let mut signs = self.signs.lock(rt);
         let is_waited_for = signs.note(Event::Request);
-        drop(signs);
-        self.note(rt, Event::Turn);
-        if !is_waited_for {
-            return;
-        }
-        if count == 1 {
-            self.requested.notify_one();
+        let is_turn_awaited = 0 < signs.turns.waiting;
+        let is_one = count == 1 && is_small;
+        if is_one && is_waited_for && !is_turn_awaited && signs.forms < MOST_FORMS {
+            Call::Reader
+        } else if is_waited_for || is_turn_awaited {
+            Call::Others
         } else {
-            self.requested.notify_all();
+            Call::Nobody
         }
+    }
+
+    /// Wakes those who are to go on.
+    pub(crate) fn wake(&self, call: Call) {
+        if matches!(call, Call::Others) {
+            self.requested.notify_all();
+            self.turned.notify_all();
+        }
+    }
+
+    /// Whether as many forms are evaluated as may be at a time.
+    pub(crate) fn is_busy<R: Wait>(&self, rt: &R) -> bool {
+        MOST_FORMS <= self.signs.lock(rt).forms
+    }
+
+    /// Leaves it to another thread to read.
+    pub(crate) fn offer_reading<R: Wait>(&self, rt: &R) {
+        self.signs.lock(rt).is_read = false;
+        self.requested.notify_one();
+    }
+
+    /// Waits until a message comes once more than so often, nobody reads, or the peer sends no more.
+    /// Answers whether it is now this thread that is to read.
+    pub(crate) fn wait_for_request<R: Wait>(&self, rt: &R, seen: u64) -> bool {
+        let mut signs = self.signs.lock(rt);
+        signs.requests.waiting = signs.requests.waiting.saturating_add(1);
+        let mut signs = self.requested.wait_while(rt, signs, |signs| {
+            let is_read = signs.is_read && signs.is_reading;
+            is_read && signs.requests.came == seen && !signs.is_over
+        });
+        signs.requests.waiting = signs.requests.waiting.saturating_sub(1);
+        let is_free = signs.is_reading && !signs.is_read;
+        if is_free {
+            signs.is_read = true;
+        }
+        is_free
     }
 
     /// Something was sent to agents, or one was restarted.
@@ -188,12 +284,50 @@ impl Desk {
         let mut signs = self.signs.lock(rt);
         signs.are_agents_at_rest = true;
         let sends = signs.sends.came;
-        if !signs.is_reading {
+        let is_turn_awaited = 0 < signs.turns.waiting;
+        let may_be_done = !signs.is_reading;
+        if may_be_done {
             signs.is_due = true;
-            drop(signs);
+        }
+        drop(signs);
+        if is_turn_awaited {
+            self.turned.notify_all();
+        }
+        if may_be_done {
             self.due.notify_one();
         }
         sends
+    }
+
+    /// How often actions have ended and messages have come until now.
+    pub(crate) fn turns_seen<R: Wait>(&self, rt: &R) -> Seen {
+        let signs = self.signs.lock(rt);
+        Seen {
+            turns: signs.turns.came,
+            requests: signs.requests.came,
+        }
+    }
+
+    /// The action that runs has asked often: nobody is to wait for the next to end.
+    pub(crate) fn note_long_action<R: Wait>(&self, rt: &R) {
+        let mut signs = self.signs.lock(rt);
+        signs.is_action_long = true;
+        let is_turn_awaited = 0 < signs.turns.waiting;
+        drop(signs);
+        if is_turn_awaited {
+            self.turned.notify_all();
+        }
+    }
+
+    /// Waits until an await may be met: until so many actions more ended, or some and no other ends
+    /// soon, or a message came.
+    pub(crate) fn wait_for_turns<R: Wait>(&self, rt: &R, seen: Seen, least: u64) {
+        let mut signs = self.signs.lock(rt);
+        signs.turns.waiting = signs.turns.waiting.saturating_add(1);
+        let mut signs = self.turned.wait_while(rt, signs, |signs| {
+            !signs.may_meet(seen, least) && !signs.is_over
+        });
+        signs.turns.waiting = signs.turns.waiting.saturating_sub(1);
     }
 
     /// The event came. All that wait for it go on.
@@ -231,15 +365,20 @@ impl Desk {
     }
 
     /// An evaluation is under way.
-    pub(crate) fn begin_evaluation<R: Wait>(&self, rt: &R) {
+    pub(crate) fn begin_evaluation<R: Wait>(&self, rt: &R, duty: Duty) {
         let mut signs = self.signs.lock(rt);
-        signs.evaluations = signs.evaluations.saturating_add(1);
+        let count = signs.evaluations_mut(duty);
+        *count = count.saturating_add(1);
+        if duty == Duty::Actions {
+            signs.is_action_long = false;
+        }
     }
 
     /// An evaluation ended. Where the peer sends no more, all may be done.
-    pub(crate) fn end_evaluation<R: Wait>(&self, rt: &R) {
+    pub(crate) fn end_evaluation<R: Wait>(&self, rt: &R, duty: Duty) {
         let mut signs = self.signs.lock(rt);
-        signs.evaluations = signs.evaluations.saturating_sub(1);
+        let count = signs.evaluations_mut(duty);
+        *count = count.saturating_sub(1);
         if !signs.is_reading {
             signs.is_due = true;
             drop(signs);
@@ -259,9 +398,15 @@ impl Desk {
     }
 
     /// Lays the pen down where there was nothing to write. Nobody else wanted it, since the book's
-    /// lock was held.
+    /// lock was held; but the writer may have seen that somebody wrote.
     pub(crate) fn return_pen<R: Wait>(&self, rt: &R) {
-        self.signs.lock(rt).is_writing = false;
+        let mut signs = self.signs.lock(rt);
+        signs.is_writing = false;
+        let is_due = signs.is_due;
+        drop(signs);
+        if is_due {
+            self.due.notify_one();
+        }
     }
 
     /// Lays the pen down. Where others wanted it, or all may be done, the writer is to look.
@@ -288,7 +433,7 @@ impl Desk {
     /// writes.
     pub(crate) fn is_at_rest<R: Wait>(&self, rt: &R) -> bool {
         let signs = self.signs.lock(rt);
-        let is_idle = signs.evaluations == 0 && signs.are_agents_at_rest;
+        let is_idle = signs.forms == 0 && signs.actions == 0 && signs.are_agents_at_rest;
         !signs.is_reading && is_idle && !signs.is_writing
     }
 }

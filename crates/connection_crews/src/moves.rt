@@ -1,7 +1,7 @@
 // The steps that a crew makes through the book, each under one hold of its lock.
 ghost use Rattle.std.specs.Prelude.{◌≡◌};
 
-use crate::desk::{Desk, Event};
+use crate::desk::{Call, Desk, Duty, Event, Seen};
 use crate::gate::Gate;
 use bytes::Bytes;
 use journal_book::{Book, Receipt, Seat};
@@ -19,11 +19,14 @@ use std::thread;
 
 // How often the book's lock is tried before a thread sleeps for it, how many pauses lie between two
 // tries, and after how many tries other threads may run.
-const TRIES: u32 = 100;
+const TRIES: u32 = 1_000;
 
 const PAUSES: u32 = 10;
 
 const TRIES_IN_A_ROW: u32 = 10;
+
+// The greatest length of a piece that is small, in bytes.
+const SMALL_PIECE: usize = 1_024;
 
 /// A connection, as each thread of its crew sees it.
 #[derive(Drop)]
@@ -38,11 +41,12 @@ pub(crate) struct Connection<'a, L: Ledger, G> {
 /// What came of a piece of the stream.
 #[derive(Drop)]
 pub(crate) enum Heard {
-    // so many messages became whole; whether the stream goes on, and replies to write
+    // whether the stream goes on, replies to write, and what who read the piece is to do, if it is
+    // one that may be done at once
     Taken {
-        messages: usize,
         goes_on: bool,
         replies: Vec<Vec<u8>>,
+        found: Option<Found>,
     },
     // too many replies wait; the piece, and how often replies were taken out
     Held(Bytes, u64),
@@ -67,8 +71,8 @@ pub(crate) enum Found {
 #[derive(Drop)]
 pub(crate) enum Told {
     Answer(Answer),
-    // an await that is not met; how often something came that may meet it
-    Waiting(u64),
+    // an await that is not met when so much had come
+    Waiting(Seen),
     Interrupted(Vec<Vec<u8>>),
     Refused,
 }
@@ -90,20 +94,29 @@ impl<'a, L: Ledger, G: Gate> Connection<'a, L, G> {
         let _ = self.stream.shutdown(Shutdown::Both);
     }
 
-    /// The tenant hears a piece.
+    /// The tenant hears a piece. What a single small message asks for is begun at once.
     pub(crate) fn hear<R: Wait>(&self, rt: &R, seat: &mut Seat<L>, piece: Bytes) -> Heard
         ensures { seat.new.tenant ≡ seat.old.tenant }
     {
         let tenant = seat.tenant();
         let mut book = locked(rt, self.book);
+        let is_small = piece.len() <= SMALL_PIECE && matches!(book.wire(tenant), Some(Wire::Whole));
         match book.act(seat, Step::Hear(tenant, piece)) {
             Ok(receipt) => {
+                let messages = messages_in(&receipt.answer);
                 let goes_on = !matches!(book.wire(tenant), Some(Wire::Broken(_)));
                 let replies = self.replies(rt, &mut *book, seat);
+                let call = self.desk.note_messages(rt, messages, is_small && goes_on);
+                let found = match call {
+                    Call::Reader => Some(self.first_found(rt, &mut *book, seat)),
+                    Call::Others | Call::Nobody => None,
+                };
+                drop(book);
+                self.desk.wake(call);
                 Heard::Taken {
-                    messages: messages_in(&receipt.answer),
                     goes_on,
                     replies,
+                    found,
                 }
             }
             Err(
@@ -116,21 +129,36 @@ impl<'a, L: Ledger, G: Gate> Connection<'a, L, G> {
         }
     }
 
-    /// Begins what the first actor that is ready has to do.
+    /// Begins what the first actor that is ready has to do, unless as many forms are evaluated as
+    /// may be at a time: then who ends one begins the next.
     pub(crate) fn begin<R: Wait>(&self, rt: &R, seat: &mut Seat<L>) -> Found
         ensures { seat.new.tenant ≡ seat.old.tenant }
     {
-        let tenant = seat.tenant();
         let mut book = locked(rt, self.book);
-        let Some(actor) = book.ready(tenant) else {
-            return match self.desk.is_reading(rt) {
-                true => Found::Nothing(self.desk.seen(rt, Event::Request)),
-                false => Found::Done,
-            };
+        self.first_found(rt, &mut *book, seat)
+    }
+
+    fn first_found<R: Wait>(&self, rt: &R, book: &mut Book<L>, seat: &mut Seat<L>) -> Found
+        ensures { seat.new.tenant ≡ seat.old.tenant }
+    {
+        if self.desk.is_busy(rt) {
+            return self.nothing(rt);
+        }
+        let Some(actor) = book.ready(seat.tenant()) else {
+            return self.nothing(rt);
         };
-        match self.start(rt, &mut *book, seat, actor) {
+        match self.start(rt, book, seat, actor) {
             Ok(found) => found,
             Err(_) => Found::Refused,
+        }
+    }
+
+    // Nothing is to be begun by this thread now; and never more where the peer sends no more, since
+    // who evaluates looks again.
+    fn nothing<R: Wait>(&self, rt: &R) -> Found {
+        match self.desk.is_reading(rt) {
+            true => Found::Nothing(self.desk.seen(rt, Event::Request)),
+            false => Found::Done,
         }
     }
 
@@ -172,7 +200,7 @@ impl<'a, L: Ledger, G: Gate> Connection<'a, L, G> {
                     answer: StepAnswer::Begun(job),
                 },
             ) => {
-                self.desk.begin_evaluation(rt);
+                self.desk.begin_evaluation(rt, duty_of(actor));
                 Ok(Found::Form(actor, job))
             }
             Ok(_) => Ok(Found::Answered(self.replies(rt, book, seat))),
@@ -217,7 +245,7 @@ impl<'a, L: Ledger, G: Gate> Connection<'a, L, G> {
                     why: Refusal::Waiting,
                     step: _,
                 },
-            ) => Told::Waiting(self.desk.seen(rt, Event::Turn)),
+            ) => Told::Waiting(self.desk.turns_seen(rt)),
             Err(_) => Told::Refused,
         }
     }
@@ -262,10 +290,10 @@ impl<'a, L: Ledger, G: Gate> Connection<'a, L, G> {
     {
         let tenant = seat.tenant();
         let mut book = locked(rt, self.book);
+        // before the replies: nobody has the pen then, so that none is left
+        let is_at_rest = self.desk.is_at_rest(rt);
         let replies = self.replies(rt, &mut *book, seat);
-        let is_done = replies.is_empty()
-            && book.ready(tenant).is_none()
-            && self.desk.is_at_rest(rt);
+        let is_done = is_at_rest && replies.is_empty() && book.ready(tenant).is_none();
         (replies, is_done)
     }
 
@@ -278,7 +306,7 @@ impl<'a, L: Ledger, G: Gate> Connection<'a, L, G> {
         }
         let (replies, are_all) = drain_all(self.alloc, book, seat);
         if !are_all {
-            self.desk.end(rt);
+            self.cut(rt);
         }
         if replies.is_empty() {
             self.desk.return_pen(rt);
@@ -317,6 +345,14 @@ pub(crate) fn bid_farewell<L: Ledger, R: Wait>(rt: &R, book: &Mutex<Book<L>>, se
     match locked(rt, book).act(seat, Step::Bye(tenant)) {
         Ok(_gone) => {}
         Err(_refused) => {}
+    }
+}
+
+/// What kind of evaluation an actor's is.
+pub(crate) fn duty_of(actor: Actor) -> Duty {
+    match actor {
+        Actor::Agents => Duty::Actions,
+        Actor::Bare | Actor::Session(_) => Duty::Requests,
     }
 }
 

@@ -1,7 +1,7 @@
-// The reader of a crew: what the peer sends is heard.
+// What the peer sends is read and heard.
 use crate::desk::Event;
 use crate::gate::Gate;
-use crate::moves::{Connection, Heard};
+use crate::moves::{Connection, Found, Heard};
 use bytes::Bytes;
 use journal_book::Seat;
 use std::io;
@@ -20,35 +20,46 @@ const PATIENCE: u64 = 100;
 
 const MOST_READS: usize = 256;
 
-/// Reads to the end of what the peer sends, or to a fault of it.
-pub(crate) fn read_pieces<L: Ledger, R: Wait, G: Gate>(
+/// What came of a read.
+#[derive(Drop)]
+pub(crate) enum Came {
+    /// Messages, if any, which are left to others.
+    Nothing,
+    /// A message, and what who read it is to do.
+    Message(Found),
+    /// Nothing more is to be read.
+    End,
+}
+
+/// Room for a piece.
+pub(crate) type Piece = [u8; PIECE];
+
+/// A piece of zeros.
+pub(crate) const EMPTY_PIECE: Piece = [0u8; PIECE];
+
+/// Reads what the peer sends next, and has it heard.
+pub(crate) fn read_piece<L: Ledger, R: Wait, G: Gate>(
     rt: &R,
     connection: &Connection<'_, L, G>,
-    mut seat: Seat<L>,
-) -> Seat<L> {
-    let mut buffer = [0u8; PIECE];
-    for _ in rt.forever() {
-        match (&mut &*connection.stream).read(&mut buffer) {
-            Ok(0) => break,
-            Ok(count) => {
-                let Ok(piece) = Bytes::copy_from_slice(connection.alloc, &buffer[..count]) else {
-                    connection.cut(rt);
-                    break;
-                };
-                if !hear(rt, connection, &mut seat, piece) {
-                    break;
-                }
-            }
-            Err(error) => {
-                if error.kind() != io::ErrorKind::Interrupted {
-                    connection.cut(rt);
-                    break;
-                }
-            }
-        }
+    seat: &mut Seat<L>,
+    buffer: &mut Piece,
+) -> Came {
+    match (&mut &*connection.stream).read(buffer) {
+        Ok(0) => Came::End,
+        Ok(count) => match Bytes::copy_from_slice(connection.alloc, &buffer[..count]) {
+            Ok(piece) => hear(rt, connection, seat, piece),
+            Err(_) => cut(rt, connection),
+        },
+        Err(error) => match error.kind() {
+            io::ErrorKind::Interrupted => Came::Nothing,
+            _ => cut(rt, connection),
+        },
     }
-    connection.desk.end_reading(rt);
-    seat
+}
+
+fn cut<L: Ledger, R: Wait, G: Gate>(rt: &R, connection: &Connection<'_, L, G>) -> Came {
+    connection.cut(rt);
+    Came::End
 }
 
 /// Reads on for a while from a peer whose stream has a fault, and looks at nothing: a socket that is
@@ -70,42 +81,43 @@ pub(crate) fn read_away(stream: &TcpStream) {
     }
 }
 
-// Has a piece heard, as soon as there is room for what it may be answered. Tells whether the stream
-// goes on.
+// Has a piece heard, as soon as there is room for what it may be answered.
 fn hear<L: Ledger, R: Wait, G: Gate>(
     rt: &R,
     connection: &Connection<'_, L, G>,
     seat: &mut Seat<L>,
     mut piece: Bytes,
-) -> bool {
+) -> Came {
     for _ in rt.forever() {
         match connection.hear(rt, seat, piece) {
             Heard::Taken {
-                messages,
                 goes_on,
                 replies,
+                found,
             } => {
-                if 0 < messages {
-                    connection.desk.note_requests(rt, messages);
-                }
                 connection.write(rt, replies);
                 if !goes_on {
                     connection.desk.note_fault(rt);
                 }
-                return goes_on;
+                return came_with(goes_on, found);
             }
             Heard::Held(back, seen) => {
                 connection.desk.wait(rt, Event::Room, seen);
                 if connection.desk.is_over(rt) {
-                    return false;
+                    return Came::End;
                 }
                 piece = back;
             }
-            Heard::Refused => {
-                connection.cut(rt);
-                return false;
-            }
+            Heard::Refused => return cut(rt, connection),
         }
     }
     unreachable!()
+}
+
+fn came_with(goes_on: bool, found: Option<Found>) -> Came {
+    match found {
+        Some(found) => Came::Message(found),
+        None if goes_on => Came::Nothing,
+        None => Came::End,
+    }
 }
