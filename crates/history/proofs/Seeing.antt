@@ -1,5 +1,5 @@
 -- What entries are seen as, where each is seen by itself and what stands before it.
-use Rattle.std.proofs.Common.{◌≡◌, ◌∙◌, ◌+◌, ℕ, zero, suc, List, [], ◌∷◌, ◌++◌, length, Some, slice_get}
+use Rattle.std.proofs.Common.{◌≡◌, ◌∙◌, ◌+◌, ◌-◌, ℕ, zero, suc, List, [], ◌∷◌, ◌++◌, length, Some, slice_get}
 use Rattle.std.proofs.Common.{refl, sym, ap, subst, arith, append_assoc, length-append}
 use Rattle.std.proofs.lemmas.List.{append-nil}
 use mathlib.Core.List.{IsPrefix}
@@ -20,6 +20,14 @@ parted-last (y ∷ []) zero x long at = let one : y ≡ x = cc at in ([], ap (λ
 parted-last (y ∷ z ∷ xs) zero x long at = absurd (omega arith)
 parted-last (y ∷ xs) (suc n) x long at =
     let rest = parted-last xs n x (omega (arith, long)) at in (y ∷ rest.0, ap (λ zs. y ∷ zs) rest.1)
+
+-- the last item, and those before it
+pub ends-with : {A : Type 0} (xs : List A) (x : A) → slice_get xs (length xs - 1) ≡ Some x
+    → (front : List A) × (xs ≡ front ++ x ∷ [])
+ends-with [] x at = absurd (cc at)
+ends-with (y ∷ ys) x at =
+    let n : length (y ∷ ys) - 1 ≡ length ys = omega arith in
+    parted-last (y ∷ ys) (length ys) x refl (sym (ap (slice_get (y ∷ ys)) n) ∙ at)
 
 module _ {A B : Type 0} (see : List A → List B) (said : List B → A → B) (none : see [] ≡ [])
     (more : (xs : List A) (x : A) → see (xs ++ x ∷ []) ≡ see xs ++ said (see xs) x ∷ []) where
@@ -55,16 +63,10 @@ module _ {A B : Type 0} (see : List A → List B) (said : List B → A → B) (n
   length-seen xs = as-long [] xs (ap length none)
 
   -- where one more entry was seen, it is seen so behind whatever is seen as what stood before it
-  pub adds-seen : (known whole : List A) (x : A) (e : B) (n : ℕ) → see whole ≡ see known ++ e ∷ []
-      → n ≡ length known → slice_get whole n ≡ Some x → see (known ++ x ∷ []) ≡ see whole
-  adds-seen known whole x e n is count at =
-      let long : length whole ≡ suc n =
-      sym (length-seen whole) ∙ ap length is ∙ length-append (see known) (e ∷ [])
-      ∙ ap (λ k. k + 1) (length-seen known ∙ sym count)
-      ∙ (let k : n + 1 ≡ suc n = omega arith in k) in
-      let parts = parted-last whole n x long at in
-      let front = parts.0 in
-      let now : see whole ≡ see front ++ said (see front) x ∷ [] = ap see parts.1 ∙ more front x in
-      let same : see front ≡ see known =
-      before-last (see front) (see known) (said (see front) x) e (sym now ∙ is) in
+  pub adds-seen : (known whole before : List A) (x : A) (e : B) → see whole ≡ see known ++ e ∷ []
+      → whole ≡ before ++ x ∷ [] → see (known ++ x ∷ []) ≡ see whole
+  adds-seen known whole before x e is parts =
+      let now : see whole ≡ see before ++ said (see before) x ∷ [] = ap see parts ∙ more before x in
+      let same : see before ≡ see known =
+      before-last (see before) (see known) (said (see before) x) e (sym now ∙ is) in
       more known x ∙ ap (λ ys. ys ++ said ys x ∷ []) (sym same) ∙ sym now

@@ -28,7 +28,7 @@ use Rattle.journal_book.proofs.EndsTold.{told-end}
 use Rattle.journal_book.proofs.FormsTold.{tells-forms}
 use Rattle.journal_book.proofs.Keeping.{keeps-on, keeps-still, answered-so, refused-so}
 
-one-more : (said : List EntryData) (es : List Entry) (e : Entry)
+pub one-more : (said : List EntryData) (es : List Entry) (e : Entry)
     → entries_behind said (es ++ e ∷ [])
     ≡ entries_behind said es ++ entry_in (entries_behind said es) e ∷ []
 one-more said [] e = refl

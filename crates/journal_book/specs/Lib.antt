@@ -6,3 +6,4 @@ pub mod Alone
 pub mod Forms
 pub mod Tenants
 pub mod Inside
+pub mod Beside

@@ -1,5 +1,5 @@
 // The book: the journal, the machine that stands for it, and the count of all steps.
-ghost use Rattle.std.specs.Prelude.{◌≡◌, ◌≢◌, ◌+◌, ◌*◌, ◌<◌, ◌≤◌, ◌^◌, ◌⊎◌, ℕ, [], IfOk};
+ghost use Rattle.std.specs.Prelude.{◌≡◌, ◌≢◌, ◌+◌, ◌*◌, ◌<◌, ◌≤◌, ◌^◌, ◌⊎◌, ℕ, [], true, IfOk};
 ghost use Rattle.std.specs.Prelude.{IfErr, OnErr, OnOk, length, vec_len};
 ghost use Rattle.std.specs.Prelude.{option_and_then, option_map};
 ghost use Rattle.server_rules.specs.Ground.{Ground};
@@ -13,11 +13,15 @@ ghost use Rattle.server_rules.specs.Inside.Wires.{wire_at};
 ghost use Rattle.repl_core.specs.Standing.{open_in};
 ghost use Rattle.repl_core.specs.Steps.{step_view, step_answer_view};
 ghost use Rattle.journal_book.specs.Alone.{bytes_to, NamesNoSharedIn, IsHonest, steps_of, turns_of};
+ghost use Rattle.tenant_parts.specs.Aside.{printed_in};
+ghost use Rattle.journal_book.specs.Beside.{PrintsStep};
+ghost use Rattle.journal_book.specs.Forms.{EndsAsTold};
 ghost use Rattle.journal_book.specs.Journal.{IsJournal};
 ghost use Rattle.journal_book.specs.View.{entries, seat_with};
 ghost use Rattle.journal_book.specs.Rows.{row, row_of, entries_of, counted_of, all_counted};
 ghost use Rattle.journal_book.specs.Standing.{IsAnswered, IsRefused, Notes, entry};
 
+use crate::beside::Beside;
 use crate::entry::Entry;
 use crate::report::Report;
 use crate::seat::Seat;
@@ -238,8 +242,37 @@ impl<L: Ledger> Book<L> {
         ensures stays { IfErr result (λ it. (self.new ≡ self.old) × (seat.new ≡ seat.old)
             × (it.step ≡ step)) }
     {
+        self.act_with(seat, step, false, &mut Beside::nothing())
+    }
+
+    /// Does what `act` does, with what was done for it beforehand. Where the step is known, and ends a
+    /// form, the journal tells that it ends just the form that runs, and nothing of that is compared.
+    pub fn act_with(
+        &mut self,
+        seat: &mut Seat<L>,
+        step: Step,
+        is_known: bool,
+        beside: &mut Beside,
+    ) -> Result<Receipt, Refused>
+        requires own { whose_step (step_view step) ≡ seat.old.tenant }
+        requires other { step_view step ≢ opens seat.old.tenant }
+        requires told { is_known ≡ true → EndsAsTold (entries self.old.journal) (step_view step) }
+        requires printed { PrintsStep (printed_in beside.old.aside) (step_view step) }
+        ensures journal { IfOk result (λ r. Notes self.old self.new
+            (entry (step_view step) (step_answer_view r.answer))) }
+        ensures tenants { self.new.tenants ≡ self.old.tenants }
+        ensures answer { IfOk result (λ r. IsAnswered self.old.config (entries self.old.journal)
+            (step_view step) (step_answer_view r.answer)) }
+        ensures place { IfOk result (λ r. r.place ≡ length self.old.journal) }
+        ensures counted { OnOk result (seat.new ≡ seat_with seat.old.tenant (seat.old.made + 1)) }
+        ensures refused { IfErr result (λ it. IsRefused self.old.config (entries self.old.journal)
+            (step_view step) it.why) }
+        ensures stays { IfErr result (λ it. (self.new ≡ self.old) × (seat.new ≡ seat.old)
+            × (it.step ≡ step)) }
+    {
         let place = self.journal.len();
-        let answer = write(self.alloc, &mut self.machine, &mut self.journal, step)?;
+        let (machine, journal) = (&mut self.machine, &mut self.journal);
+        let answer = write(self.alloc, machine, journal, step, is_known, beside)?;
         seat.count(&mut self.counts);
         Ok(Receipt { place, answer })
     }

@@ -1,6 +1,7 @@
 //! The book of a server: its machine, and the journal of all steps that it accepted.
 #![tactic(auto)]
 
+mod beside;
 mod book;
 mod entry;
 pub mod laws;
@@ -9,6 +10,7 @@ mod report;
 mod seat;
 mod writing;
 
+pub use beside::Beside;
 pub use book::{Book, PARTS, Places, Receipt, TENANTS, Unclosed};
 pub use entry::{AcceptedStep, AnsweredAsk, Entry, HeardPiece, ResolvedSymbol};
 pub use report::{Report, Row};

@@ -124,21 +124,21 @@ pub(crate) fn start_entry(
     Entry::Started(tenant, actor, noted)
 }
 
-/// The entry of an end that was answered so.
+/// The entry of an end that was answered so, and the ending where the entry needs nothing of it.
 pub(crate) fn end_entry(
     tenant: u64,
     actor: Actor,
     noted: Box<Finished>,
     ending: Box<Ending>,
     answer: EndAnswer,
-) -> Entry
-    ensures finished { answer ≡ EndAnswer.Finished → result ≡ Entry.Ended tenant actor noted }
+) -> (Entry, Option<Box<Ending>>)
+    ensures finished { answer ≡ EndAnswer.Finished → result.0 ≡ Entry.Ended tenant actor noted }
     ensures interrupted { answer ≡ EndAnswer.Interrupted
-        → result ≡ Entry.Interrupted tenant actor ending }
+        → result.0 ≡ Entry.Interrupted tenant actor ending }
 {
     match answer {
-        EndAnswer::Finished => Entry::Ended(tenant, actor, noted),
-        EndAnswer::Interrupted => Entry::Interrupted(tenant, actor, ending),
+        EndAnswer::Finished => (Entry::Ended(tenant, actor, noted), Some(ending)),
+        EndAnswer::Interrupted => (Entry::Interrupted(tenant, actor, ending), None),
     }
 }
 

@@ -1,17 +1,29 @@
 // A step is made, and written down with its answer. Where it is refused nothing is written. All that
 // an entry needs of memory is taken before the step is made.
-ghost use Rattle.std.specs.Prelude.{◌≡◌, OnErr, IfErr};
+ghost use Rattle.std.specs.Prelude.{◌≡◌, true, OnErr, IfOk, IfErr};
 ghost use Rattle.repl_asks.specs.Inside.View.{ask_view};
 ghost use Rattle.repl_walker.specs.Ends.{ending_view};
-ghost use Rattle.server_rules.specs.Machine.World.{does, opens};
+ghost use Rattle.server_rules.specs.Machine.World.{does, opens, closes};
 ghost use Rattle.server_rules.specs.Plan.{hears, starts, asks_for, ends, drains};
-ghost use Rattle.server_rules.specs.Plan.{tenant_opened, messages_heard, reply_given};
+ghost use Rattle.server_rules.specs.Plan.{tenant_opened, tenant_gone, messages_heard, reply_given};
 ghost use Rattle.tenant_asks.specs.Answers.{ask_answer_view};
 ghost use Rattle.tenant_world.specs.Answers.{start_answer_view, end_answer_view};
 ghost use Rattle.repl_core.specs.Steps.{step_view, step_answer_view};
 ghost use Rattle.repl_core.specs.declared.step.Step as Step;
+ghost use Rattle.server_rules.specs.Ground.{Ground};
+ghost use Rattle.server_rules.specs.Grounds.{IsRight};
+ghost use Rattle.server_rules.specs.Machine.World.{World};
+ghost use Rattle.repl_core.specs.Kept.{EndsAsKept};
+ghost use Rattle.repl_core.specs.Standing.{MachineStands};
+ghost use Rattle.repl_core.specs.Steps.{AcceptsStep, RefusesStep};
+ghost use Rattle.tenant_parts.specs.Aside.{printed_in};
+ghost use Rattle.tenant_parts.specs.Printed.{PrintsEnd};
+ghost use Rattle.journal_book.specs.Beside.{PrintsStep};
+ghost use Rattle.journal_book.specs.Forms.{EndsAsTold};
 ghost use Rattle.journal_book.specs.Standing.{KeepsOn, Writes, AddsOne, Declines};
+ghost use Rattle.journal_book.specs.View.{entries};
 
+use crate::beside::Beside;
 use crate::entry::{Entry, end_to_note, piece_to_note, start_to_note, step_to_note};
 use crate::noting::{AskNote, end_entry, heard_entry, start_entry, step_entry};
 use bytes::Bytes;
@@ -23,6 +35,7 @@ use server_rules::{Actor, Refusal};
 use std::alloc::Global;
 use std::boxed::Box;
 use tenant_asks::AskAnswer;
+use tenant_parts::Aside;
 use tenant_world::{EndAnswer, StartAnswer};
 
 /// A tenant comes.
@@ -54,13 +67,18 @@ pub(crate) fn open(
     }
 }
 
-/// Any step of a tenant.
+/// Any step of a tenant. Where it is known, and ends a form, it ends just the form of which the
+/// journal tells, and nothing of that is compared.
 pub(crate) fn write(
     alloc: Global,
     machine: &mut Machine,
     journal: &mut Pages<Entry>,
     step: Step,
+    is_known: bool,
+    beside: &mut Beside,
 ) -> Result<StepAnswer, Refused>
+    requires told { is_known ≡ true → EndsAsTold (entries journal.old.items) (step_view step) }
+    requires printed { PrintsStep (printed_in beside.old.aside) (step_view step) }
     ensures keeps { KeepsOn machine.old journal.old.items machine.new journal.new.items }
     ensures written { Writes (step_view step) machine.old journal.old.items journal.new.items result
         step_answer_view }
@@ -71,7 +89,7 @@ pub(crate) fn write(
     ensures handed_back { IfErr result (λ it. it.step ≡ step) }
 {
     match step {
-        Step::Start(tenant, actor) => match begin(alloc, machine, journal, tenant, actor) {
+        Step::Start(tenant, actor) => match begin(alloc, machine, journal, tenant, actor, beside) {
             Ok(answer) => Ok(of_start(answer)),
             Err(why) => Err(Refused {
                 why,
@@ -79,7 +97,7 @@ pub(crate) fn write(
             }),
         },
         Step::Asked(tenant, actor, ask) => {
-            match answer_ask(alloc, machine, journal, tenant, actor, &ask) {
+            match answer_ask(alloc, machine, journal, tenant, actor, &ask, beside) {
                 Ok(answer) => Ok(of_ask(answer)),
                 Err(why) => Err(Refused {
                     why,
@@ -88,7 +106,9 @@ pub(crate) fn write(
             }
         }
         Step::Ended(tenant, actor, ending) => {
-            match end(alloc, machine, journal, tenant, actor, ending) {
+            match end(
+                alloc, machine, journal, tenant, actor, ending, is_known, beside,
+            ) {
                 Ok(answer) => Ok(of_end(answer)),
                 Err(refused) => Err(refused),
             }
@@ -100,7 +120,13 @@ pub(crate) fn write(
                 step: Step::Drain(tenant),
             }),
         },
-        Step::Open(tenant) => make(alloc, machine, journal, Step::Open(tenant)),
+        Step::Open(tenant) => match open(alloc, machine, journal, tenant) {
+            Ok(()) => Ok(StepAnswer::Opened),
+            Err(why) => Err(Refused {
+                why,
+                step: Step::Open(tenant),
+            }),
+        },
         Step::Hear(tenant, piece) => match hear(alloc, machine, journal, tenant, &piece) {
             Ok(messages) => Ok(StepAnswer::Heard(messages)),
             Err(why) => Err(Refused {
@@ -108,7 +134,13 @@ pub(crate) fn write(
                 step: Step::Hear(tenant, piece),
             }),
         },
-        Step::Bye(tenant) => make(alloc, machine, journal, Step::Bye(tenant)),
+        Step::Bye(tenant) => match bye(alloc, machine, journal, tenant, beside) {
+            Ok(()) => Ok(StepAnswer::Gone),
+            Err(why) => Err(Refused {
+                why,
+                step: Step::Bye(tenant),
+            }),
+        },
     }
 }
 
@@ -150,6 +182,7 @@ fn begin(
     journal: &mut Pages<Entry>,
     tenant: u64,
     actor: Actor,
+    beside: &mut Beside,
 ) -> Result<StartAnswer, Refusal>
     ensures keeps { KeepsOn machine.old journal.old.items machine.new journal.new.items }
     ensures written { Writes (does tenant (starts actor)) machine.old journal.old.items
@@ -165,7 +198,7 @@ fn begin(
     let Ok(noted) = start_to_note(alloc) else {
         return Err(Refusal::NoMemory);
     };
-    match machine.start(tenant, actor) {
+    match machine.start(tenant, actor, &mut beside.aside) {
         Ok(answers) => {
             journal.put(start_entry(tenant, actor, noted, answers.noted));
             Ok(answers.given)
@@ -182,6 +215,7 @@ fn answer_ask(
     tenant: u64,
     actor: Actor,
     ask: &Ask,
+    beside: &mut Beside,
 ) -> Result<AskAnswer, Refusal>
     ensures keeps { KeepsOn machine.old journal.old.items machine.new journal.new.items }
     ensures written { Writes (does tenant (asks_for actor (ask_view ask.now))) machine.old
@@ -197,7 +231,7 @@ fn answer_ask(
     let Ok(noted) = AskNote::of(alloc, ask) else {
         return Err(Refusal::NoMemory);
     };
-    match machine.answer_ask(tenant, actor, ask) {
+    match machine.answer_ask(tenant, actor, ask, &mut beside.aside) {
         Ok(answers) => {
             journal.put(noted.answered(tenant, actor, answers.noted));
             Ok(answers.given)
@@ -214,7 +248,12 @@ fn end(
     tenant: u64,
     actor: Actor,
     ending: Box<Ending>,
+    is_known: bool,
+    beside: &mut Beside,
 ) -> Result<EndAnswer, Refused>
+    requires told { is_known ≡ true → EndsAsTold (entries journal.old.items)
+        (does tenant (ends actor (ending_view ending.value))) }
+    requires printed { PrintsEnd (printed_in beside.old.aside) (ending_view ending.value).end }
     ensures keeps { KeepsOn machine.old journal.old.items machine.new journal.new.items }
     ensures written { Writes (does tenant (ends actor (ending_view ending.value))) machine.old
         journal.old.items journal.new.items result end_answer_view }
@@ -230,12 +269,40 @@ fn end(
     let Ok(noted) = end_to_note(alloc, &ending) else {
         return Err(refused(Refusal::NoMemory, tenant, actor, ending));
     };
-    match machine.end_form(tenant, actor, &ending) {
+    match end_form(machine, tenant, actor, &ending, is_known, &mut beside.aside) {
         Ok(answer) => {
-            journal.put(end_entry(tenant, actor, noted, ending, answer));
+            let (entry, spent) = end_entry(tenant, actor, noted, ending, answer);
+            journal.put(entry);
+            beside.ending = spent;
             Ok(answer)
         }
         Err(why) => Err(refused(why, tenant, actor, ending)),
+    }
+}
+
+// The machine ends a form. Where the ending is known to be the form's, nothing of it is compared.
+fn end_form(
+    machine: &mut Machine,
+    tenant: u64,
+    actor: Actor,
+    ending: &Ending,
+    is_known: bool,
+    aside: &mut Aside,
+) -> Result<EndAnswer, Refusal>
+    requires { PrintsEnd (printed_in aside.old) (ending_view ending.now).end }
+    ensures done { (g : Ground) (w : World) → IsRight g → MachineStands g machine.old w
+        → (is_known ≡ true → EndsAsKept w (does tenant (ends actor (ending_view ending.now))))
+        → IfOk result (λ it. AcceptsStep g w (does tenant (ends actor (ending_view ending.now)))
+        machine.new (end_answer_view it)) }
+    ensures refused { (g : Ground) (w : World) → IsRight g → MachineStands g machine.old w
+        → (is_known ≡ true → EndsAsKept w (does tenant (ends actor (ending_view ending.now))))
+        → IfErr result (RefusesStep g w (does tenant (ends actor (ending_view ending.now)))
+        machine.new) }
+{
+    if is_known {
+        machine.end_known(tenant, actor, ending, aside)
+    } else {
+        machine.end_form(tenant, actor, ending, aside)
     }
 }
 
@@ -272,39 +339,33 @@ fn drain(machine: &mut Machine, journal: &mut Pages<Entry>, tenant: u64) -> Resu
     }
 }
 
-// Any step, which is kept as it is.
-fn make(
+// A tenant goes.
+fn bye(
     alloc: Global,
     machine: &mut Machine,
     journal: &mut Pages<Entry>,
-    step: Step,
-) -> Result<StepAnswer, Refused>
+    tenant: u64,
+    beside: &mut Beside,
+) -> Result<(), Refusal>
     ensures keeps { KeepsOn machine.old journal.old.items machine.new journal.new.items }
-    ensures written { Writes (step_view step) machine.old journal.old.items journal.new.items result
-        step_answer_view }
+    ensures written { Writes (closes tenant) machine.old journal.old.items journal.new.items result
+        (λ _. tenant_gone) }
     ensures one { AddsOne journal.old.items journal.new.items result }
-    ensures declined { Declines (step_view step) machine.old journal.old.items result
-        (λ it. it.why) }
+    ensures declined { Declines (closes tenant) machine.old journal.old.items result (λ why. why) }
     ensures stays { OnErr result (journal.new.items ≡ journal.old.items) }
-    ensures handed_back { IfErr result (λ it. it.step ≡ step) }
 {
     let Ok(()) = journal.make_room() else {
-        return Err(Refused {
-            why: Refusal::NoMemory,
-            step,
-        });
+        return Err(Refusal::NoMemory);
     };
-    let Ok(noted) = step_to_note(alloc, step.tenant()) else {
-        return Err(Refused {
-            why: Refusal::NoMemory,
-            step,
-        });
+    let Ok(noted) = step_to_note(alloc, tenant) else {
+        return Err(Refusal::NoMemory);
     };
-    match machine.make(&step) {
-        Ok(answers) => {
-            journal.put(step_entry(noted, step, answers.noted));
-            Ok(answers.given)
+    match machine.close(tenant) {
+        Ok(gone) => {
+            journal.put(step_entry(noted, Step::Bye(tenant), StepAnswer::Gone));
+            beside.tenant = Some(gone);
+            Ok(())
         }
-        Err(why) => Err(Refused { why, step }),
+        Err(why) => Err(why),
     }
 }

@@ -8,6 +8,8 @@ ghost use Rattle.server_rules.specs.Machine.World.{World, does, step};
 ghost use Rattle.ref_table.specs.Standing.{counter_of};
 ghost use Rattle.server_rules.specs.Grounds.{IsRight};
 ghost use Rattle.repl_walker.specs.Ends.{ending_view};
+ghost use Rattle.tenant_parts.specs.Aside.{printed_in};
+ghost use Rattle.tenant_parts.specs.Printed.{PrintsEnd};
 ghost use Rattle.tenant_world.specs.Answers.{AreSameStarts, AreSameReplies};
 ghost use Rattle.tenant_asks.specs.Answers.{AreSameAnswers, ask_answer_view};
 ghost use Rattle.tenant_world.specs.Answers.{start_answer_view, end_answer_view};
@@ -19,6 +21,7 @@ use ref_table::RefTable;
 use repl_asks::Ask;
 use repl_walker::Ending;
 use server_rules::{Actor, Refusal};
+use tenant_parts::Aside;
 use tenant_world as world;
 use tenant_world::{AskAnswers, EndAnswer, Replies, StartAnswers};
 
@@ -47,7 +50,12 @@ impl Machine {
     }
 
     /// An actor begins its next form, or takes up its next request. What it is answered comes twice.
-    pub fn start(&mut self, number: u64, actor: Actor) -> Result<StartAnswers, Refusal>
+    pub fn start(
+        &mut self,
+        number: u64,
+        actor: Actor,
+        aside: &mut Aside,
+    ) -> Result<StartAnswers, Refusal>
         ensures done { DoesStep (does number (starts actor)) self.old self.new result
             (λ it. start_answer_view it.given) }
         ensures refused { DeclinesStep (does number (starts actor)) self.old self.new result }
@@ -57,7 +65,7 @@ impl Machine {
         let Some(tenant) = self.tenants.get_mut(number) else {
             return Err(Refusal::NoSuchTenant);
         };
-        tenant.start_copied(actor)
+        tenant.start_copied(actor, aside)
     }
 
     /// The form of an actor that runs asks this. What it is answered comes twice.
@@ -66,6 +74,7 @@ impl Machine {
         number: u64,
         actor: Actor,
         ask: &Ask,
+        aside: &mut Aside,
     ) -> Result<AskAnswers, Refusal>
         ensures done { DoesStep (does number (asks_for actor (ask_view ask.now))) self.old
             self.new result (λ it. ask_answer_view it.given) }
@@ -83,7 +92,7 @@ impl Machine {
         let Some(tenant) = self.tenants.get_mut(number) else {
             return Err(Refusal::NoSuchTenant);
         };
-        tenant.answer_copied(&mut self.refs, actor, ask)
+        tenant.answer_copied(&mut self.refs, actor, ask, aside)
     }
 
     /// The form of an actor that runs has ended so.
@@ -92,7 +101,9 @@ impl Machine {
         number: u64,
         actor: Actor,
         ending: &Ending,
+        aside: &mut Aside,
     ) -> Result<EndAnswer, Refusal>
+        requires { PrintsEnd (printed_in aside.old) (ending_view ending.now).end }
         ensures done { DoesStep (does number (ends actor (ending_view ending.now))) self.old
             self.new result end_answer_view }
         ensures refused { DeclinesStep (does number (ends actor (ending_view ending.now)))
@@ -108,17 +119,19 @@ impl Machine {
             trace: ending.trace(),
             finished: ending.end(),
         };
-        tenant.end_form(actor, &parts)
+        tenant.end_form(actor, &parts, aside)
     }
 
     /// The same of an ending that is known to be the form's, with the job and the trace that are
     /// kept of it. Nothing is compared.
-    pub(crate) fn end_known(
+    pub fn end_known(
         &mut self,
         number: u64,
         actor: Actor,
         ending: &Ending,
+        aside: &mut Aside,
     ) -> Result<EndAnswer, Refusal>
+        requires { PrintsEnd (printed_in aside.old) (ending_view ending.now).end }
         ensures done { DoesKnown (does number (ends actor (ending_view ending.now))) self.old
             self.new result end_answer_view }
         ensures refused { DeclinesKnown (does number (ends actor (ending_view ending.now)))
@@ -129,7 +142,7 @@ impl Machine {
         let Some(tenant) = self.tenants.get_mut(number) else {
             return Err(Refusal::NoSuchTenant);
         };
-        tenant.finish(actor, ending.end())
+        tenant.finish(actor, ending.end(), aside)
     }
 
     /// A tenant's oldest reply is taken out, and the same once more.

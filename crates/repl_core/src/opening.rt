@@ -47,19 +47,19 @@ impl Machine {
         }
     }
 
-    /// A tenant goes, and its refs with it. It takes no memory.
-    pub fn close(&mut self, number: u64) -> Result<(), Refusal>
+    /// A tenant goes, and its refs with it. What is left of it is given. It takes no memory.
+    pub fn close(&mut self, number: u64) -> Result<Box<Tenant>, Refusal>
         ensures done { (g : Ground) (w : World) → MachineStands g self.old w
             → OnOk result (AcceptsStep g w (closes number) self.new tenant_gone) }
         ensures refused { (g : Ground) (w : World) → MachineStands g self.old w
             → IfErr result (RefusesStep g w (closes number) self.new) }
         ensures free { result ≢ Err Refusal.NoMemory }
     {
-        if !self.tenants.remove(number) {
+        let Some(tenant) = self.tenants.remove(number) else {
             return Err(Refusal::NoSuchTenant);
-        }
+        };
         self.refs.release(number);
         self.places_taken = self.places_taken.saturating_sub(1);
-        Ok(())
+        Ok(tenant)
     }
 }

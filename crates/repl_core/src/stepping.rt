@@ -14,6 +14,7 @@ ghost use Rattle.repl_core.specs.Steps.{step_view, step_answer_view, AreSame};
 use crate::machine::Machine;
 use crate::step::{Refused, Step, StepAnswer, StepAnswers};
 use server_rules::Refusal;
+use tenant_parts::Aside;
 use tenant_world::{AskAnswer, AskAnswers, EndAnswer, Replies, StartAnswer, StartAnswers};
 
 impl Machine {
@@ -70,6 +71,7 @@ impl Machine {
             → is_accepted_step (worlds.step g w (step_view step.now)) ≡ true) }
         ensures same { IfOk result AreSame }
     {
+        let mut aside = Aside::nothing();
         match step {
             Step::Open(number) => {
                 self.open(*number)?;
@@ -85,14 +87,16 @@ impl Machine {
                     noted: StepAnswer::Heard(count),
                 })
             }
-            Step::Start(number, actor) => Ok(of_started(self.start(*number, *actor)?)),
-            Step::Asked(number, actor, ask) => Ok(of_asked(self.answer_ask(*number, *actor, ask)?)),
+            Step::Start(number, actor) => Ok(of_started(self.start(*number, *actor, &mut aside)?)),
+            Step::Asked(number, actor, ask) => {
+                Ok(of_asked(self.answer_ask(*number, *actor, ask, &mut aside)?))
+            }
             Step::Ended(number, actor, ending) => {
-                Ok(of_ended(self.end_form(*number, *actor, ending)?))
+                Ok(of_ended(self.end_form(*number, *actor, ending, &mut aside)?))
             }
             Step::Drain(number) => Ok(of_drained(self.drain_copied(*number)?)),
             Step::Bye(number) => {
-                self.close(*number)?;
+                drop(self.close(*number)?);
                 Ok(StepAnswers {
                     given: StepAnswer::Gone,
                     noted: StepAnswer::Gone,
@@ -115,7 +119,7 @@ impl Machine {
     {
         match step {
             Step::Ended(number, actor, ending) => {
-                Ok(of_ended(self.end_known(*number, *actor, ending)?))
+                Ok(of_ended(self.end_known(*number, *actor, ending, &mut Aside::nothing())?))
             }
             _ => self.make(step),
         }

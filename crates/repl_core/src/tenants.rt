@@ -58,13 +58,12 @@ impl Tenants {
         Ok(())
     }
 
-    /// Takes a tenant away, and answers whether it was there. It takes no memory.
-    pub(crate) fn remove(&mut self, number: u64) -> bool
-        ensures was { result ≡ is_some (tenant_at self.old number) }
+    /// Takes a tenant away, and gives it, if it was there. It takes no memory.
+    pub(crate) fn remove(&mut self, number: u64) -> Option<Box<Tenant>>
+        ensures was { is_some result ≡ is_some (tenant_at self.old number) }
         ensures gone { tenant_at self.new number ≡ None }
         ensures others { (u : ℕ) → u ≢ number → tenant_at self.new u ≡ tenant_at self.old u }
     {
-        let tenant = self.live.remove(&number);
-        tenant.is_some()
+        self.live.remove(&number)
     }
 }

@@ -27,6 +27,7 @@ use repl_asks::Answer;
 use repl_walker::Progress;
 use server_rules::{Actor, Refusal};
 use std::alloc::AllocError;
+use tenant_parts::Aside;
 use tenant_world::{AskAnswer, Tenant};
 
 impl Walks {
@@ -162,7 +163,7 @@ impl Walks {
         let Some(Progress::Ends(ending)) = self.get(actor) else {
             unreachable!();
         };
-        tenant.finish(actor, ending.end())?;
+        tenant.finish(actor, ending.end(), &mut Aside::nothing())?;
         self.remove(actor);
         Ok(())
     }

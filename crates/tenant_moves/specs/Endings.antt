@@ -1,5 +1,5 @@
 -- What of a request in hand is still to do behind a form that ended.
-use Rattle.std.specs.Prelude.{◌≡◌, Bool, true, false, Option, None, Some}
+use Rattle.std.specs.Prelude.{◌≡◌, ℕ, ⊤, Bool, true, false, List, Option, None, Some, IfSome, Ok}
 use Rattle.std.specs.Arc.{arc_str_bytes}
 use Rattle.value_data.specs.Datum.{Items, no_items, item}
 use Rattle.value_data.specs.Inside.View.{view}
@@ -9,6 +9,7 @@ use Rattle.server_rules.specs.Moves.{Move}
 use Rattle.tenant_moves.specs.declared.news.News.{News}
 use Rattle.tenant_moves.specs.declared.ending.After.{After}
 use Rattle.tenant_moves.specs.Told.{Tells, Adds}
+use Rattle.tenant_parts.specs.Printed.{IsPrintOf}
 
 abbrev pub are_none : Items → Bool
 are_none no_items = true
@@ -23,6 +24,16 @@ abbrev pub hand_after : rules.Hand → After → Option rules.Hand
 hand_after h After.Over = None
 hand_after h (After.Next namespace last) =
     Some (last_kept last (record h { running = None; namespace = arc_str_bytes namespace }))
+
+-- the text is the last value so far as it is printed, if one is kept
+abbrev pub IsPrintOfLast : rules.Manner → List ℕ → Type 0
+IsPrintOfLast (rules.last_form d) text = IsPrintOf (Ok d) text
+IsPrintOfLast rules.each_form text = ⊤
+IsPrintOfLast rules.each_form_elsewhere text = ⊤
+IsPrintOfLast (rules.of_action session) text = ⊤
+
+abbrev pub PrintsLast : Option (List ℕ) → rules.Manner → Type 0
+PrintsLast printed m = IfSome printed (IsPrintOfLast m)
 
 -- a form of this request ended by this move
 pub record EndsForm (m : Move) (h : rules.Hand) (made : News × After) : Type 0 where

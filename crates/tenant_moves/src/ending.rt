@@ -1,11 +1,12 @@
 // A form of the request in hand has ended.
-ghost use Rattle.std.specs.Prelude.{◌≡◌, Some, option_map, Ok, Err, IfOk};
+ghost use Rattle.std.specs.Prelude.{◌≡◌, Some, option_map, option_copied, Ok, Err, IfOk};
 ghost use Rattle.repl_values.specs.Inside.FaultView.{failure_of};
 ghost use Rattle.value_data.specs.Inside.View.{view};
 ghost use Rattle.repl_asks.specs.Inside.Jobs.{finished_view};
 ghost use Rattle.repl_sessions.specs.Inside.StateView.{state_view};
 ghost use Rattle.server_rules.specs.Request.{each_form, each_form_elsewhere, of_action};
 ghost use Rattle.server_rules.specs.Moves.{form_ended, form_ended_as, form_loaded, going_on};
+ghost use Rattle.tenant_parts.specs.Printed.{PrintsValue, PrintsEnd};
 ghost use Rattle.tenant_parts.specs.View.{hand_view};
 ghost use Rattle.tenant_moves.specs.Told.{told_state};
 ghost use Rattle.tenant_moves.specs.Endings.{are_none, last_kept, hand_after, EndsForm, EndsFormBy};
@@ -36,27 +37,35 @@ pub fn form_end(
     alloc: Global,
     hand: &Hand,
     finished: &Finished,
+    printed: Option<&str>,
     state: SessionState,
 ) -> Result<(News, After), AllocError>
+    requires { PrintsEnd (option_copied printed) (finished_view finished.now) }
     ensures { IfOk result (EndsForm
         (form_ended (hand_view hand.now) (finished_view finished.now) (state_view state))
         (hand_view hand.now)) }
 {
     let mut news = News::new(alloc, state);
-    let after = end_form(&mut news, hand, finished)?;
+    let after = end_form(&mut news, hand, finished, printed)?;
     Ok((news, after))
 }
 
-fn end_form(news: &mut News, hand: &Hand, finished: &Finished) -> Result<After, AllocError>
+fn end_form(
+    news: &mut News,
+    hand: &Hand,
+    finished: &Finished,
+    printed: Option<&str>,
+) -> Result<After, AllocError>
+    requires { PrintsEnd (option_copied printed) (finished_view finished.now) }
     ensures { IfOk result (EndsFormBy
         (form_ended_as (hand_view hand.now) (finished_view finished.now) (told_state news.old)
         (hand_view hand.now).manner) (hand_view hand.now) news.old news.new) }
 {
     match &hand.manner {
-        Manner::EachForm => end_here(news, hand, finished),
-        Manner::EachFormElsewhere => end_elsewhere(news, hand, finished),
+        Manner::EachForm => end_here(news, hand, finished, printed),
+        Manner::EachFormElsewhere => end_elsewhere(news, hand, finished, printed),
         Manner::LastForm(_) => match finished.end() {
-            End::Value(value) => end_with_value(news, hand, finished, value),
+            End::Value(value) => end_with_value(news, hand, finished, value, printed),
             End::Fault(fault) => end_with_fault(news, hand, finished, fault),
         },
         Manner::OfAction(session) => end_action(news, hand, finished, *session),
@@ -78,23 +87,35 @@ fn end_action(
     Ok(After::Over)
 }
 
-fn end_here(news: &mut News, hand: &Hand, finished: &Finished) -> Result<After, AllocError>
+fn end_here(
+    news: &mut News,
+    hand: &Hand,
+    finished: &Finished,
+    printed: Option<&str>,
+) -> Result<After, AllocError>
+    requires { PrintsEnd (option_copied printed) (finished_view finished.now) }
     ensures { IfOk result (λ after. EndsFormBy
         (form_ended_as (hand_view hand.now) (finished_view finished.now) (told_state news.old)
         each_form) (hand_view hand.now) news.old news.new after) }
 {
-    news.batch.add_end(&*hand.origin, finished)?;
+    news.batch.add_end(&*hand.origin, finished, printed)?;
     news.note_result(finished.end())?;
     news.state.enter(copy_text(finished.namespace())?);
     go_on_behind(news, hand, finished)
 }
 
-fn end_elsewhere(news: &mut News, hand: &Hand, finished: &Finished) -> Result<After, AllocError>
+fn end_elsewhere(
+    news: &mut News,
+    hand: &Hand,
+    finished: &Finished,
+    printed: Option<&str>,
+) -> Result<After, AllocError>
+    requires { PrintsEnd (option_copied printed) (finished_view finished.now) }
     ensures { IfOk result (λ after. EndsFormBy
         (form_ended_as (hand_view hand.now) (finished_view finished.now) (told_state news.old)
         each_form_elsewhere) (hand_view hand.now) news.old news.new after) }
 {
-    news.batch.add_end(&*hand.origin, finished)?;
+    news.batch.add_end(&*hand.origin, finished, printed)?;
     news.note_result(finished.end())?;
     go_on_behind(news, hand, finished)
 }
@@ -104,7 +125,9 @@ fn end_with_value(
     hand: &Hand,
     finished: &Finished,
     value: &Value,
+    printed: Option<&str>,
 ) -> Result<After, AllocError>
+    requires { PrintsValue (option_copied printed) (view value.now) }
     ensures { IfOk result (λ after. EndsFormBy
         (form_loaded (hand_view hand.now) (finished_view finished.now) (Ok (view value.now))
         (told_state news.old)) (hand_view hand.now) news.old news.new after) }
@@ -113,7 +136,8 @@ fn end_with_value(
     let namespace = copy_text(finished.namespace())?;
     let last = copy(value)?;
     if is_last(hand) {
-        news.end_request(&hand.origin, &Manner::LastForm(last), &hand.fault)?;
+        let manner = Manner::LastForm(last);
+        news.end_request(&hand.origin, &manner, &hand.fault, printed)?;
         return Ok(After::Over);
     }
     Ok(After::Next {
@@ -148,7 +172,7 @@ fn go_on_behind(news: &mut News, hand: &Hand, finished: &Finished) -> Result<Aft
         (hand_view hand.now) news.old news.new after) }
 {
     if is_last(hand) {
-        news.end_request(&hand.origin, &hand.manner, &hand.fault)?;
+        news.end_request(&hand.origin, &hand.manner, &hand.fault, None)?;
         return Ok(After::Over);
     }
     Ok(After::Next {

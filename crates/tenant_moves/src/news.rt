@@ -1,5 +1,5 @@
 // What is told of a request.
-ghost use Rattle.std.specs.Prelude.{◌≡◌, [], None, option_map, OnOk};
+ghost use Rattle.std.specs.Prelude.{◌≡◌, [], None, option_map, option_copied, OnOk};
 ghost use Rattle.std.specs.Arc.{arc_value};
 ghost use Rattle.repl_values.specs.Inside.FaultView.{failure_of};
 ghost use Rattle.repl_asks.specs.Inside.Jobs.{end_view};
@@ -7,6 +7,7 @@ ghost use Rattle.repl_replies.specs.Inside.View.{origin_view};
 ghost use Rattle.repl_sessions.specs.Inside.StateView.{state_view};
 ghost use Rattle.server_rules.specs.Moves.{over_by, closing_move, result_noted};
 ghost use Rattle.tenant_parts.specs.View.{manner_view};
+ghost use Rattle.tenant_moves.specs.Endings.{PrintsLast};
 ghost use Rattle.tenant_moves.specs.Told.{told_bytes, told_state, Adds};
 
 use repl_asks::End;
@@ -59,17 +60,25 @@ impl News {
         origin: &Arc<Origin>,
         manner: &Manner,
         fault: &Option<Fault>,
+        printed: Option<&str>,
     ) -> Result<(), AllocError>
+        requires { PrintsLast (option_copied printed) (manner_view manner.now) }
         ensures { OnOk result (Adds (closing_move (origin_view (arc_value origin.now)) (manner_view manner.now)
             (option_map failure_of fault.now) (told_state self.old)) self.old self.new) }
     {
         match fault {
             Some(fault) => self.end_by_fault(origin, fault),
-            None => self.end_well(origin, manner),
+            None => self.end_well(origin, manner, printed),
         }
     }
 
-    fn end_well(&mut self, origin: &Arc<Origin>, manner: &Manner) -> Result<(), AllocError>
+    fn end_well(
+        &mut self,
+        origin: &Arc<Origin>,
+        manner: &Manner,
+        printed: Option<&str>,
+    ) -> Result<(), AllocError>
+        requires { PrintsLast (option_copied printed) (manner_view manner.now) }
         ensures { OnOk result (Adds (closing_move (origin_view (arc_value origin.now)) (manner_view manner.now)
             None (told_state self.old)) self.old self.new) }
     {
@@ -80,7 +89,8 @@ impl News {
                 .add(&**origin, Body::Done),
             Manner::LastForm(last) => {
                 let namespace = copy_text(&self.state.namespace)?;
-                self.batch.add_value(&**origin, namespace.as_str(), last)?;
+                self.batch
+                    .add_value(&**origin, namespace.as_str(), last, printed)?;
                 self.batch.add(&**origin, Body::Done)?;
                 self.state.note_value(copy(last)?);
                 Ok(())

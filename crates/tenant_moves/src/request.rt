@@ -17,14 +17,14 @@ ghost use Rattle.tenant_moves.specs.Opening.{opened_view, named_namespace, text_
 use bencode_wire::Ben;
 use name_spaces::Spaces;
 use repl_reader::laws::readings_are_unique;
-use repl_reader::{ProgramForms, ReaderFault, read_all};
+use repl_reader::{ProgramForms, ReaderFault};
 use repl_replies::Origin;
 use repl_sessions::SessionState;
 use repl_values::{Fault, Value, copy_text};
 use std::alloc::{AllocError, Global};
 use std::collections::VecDeque;
 use std::sync::{Arc, ArcStr};
-use tenant_parts::{Hand, Manner, ProgramText, Waiting};
+use tenant_parts::{Aside, Hand, Manner, ProgramText, Waiting};
 
 /// A request whose text was read.
 #[derive(Drop)]
@@ -34,12 +34,14 @@ pub enum Opened {
     NamespaceNotFound,
 }
 
-/// Reads the text of a request, whose session has this state. It fails only for want of memory.
+/// Reads the text of a request, whose session has this state, unless it was read before. It fails
+/// only for want of memory.
 pub fn open_request(
     alloc: Global,
     spaces: &Spaces,
     waiting: &Waiting,
     state: &SessionState,
+    aside: &mut Aside,
 ) -> Result<Opened, AllocError>
     ensures { (r : Readings) → AreRight r → IfOk result (λ made. opened_view made
         ≡ opened_hand r (namespaces_of spaces.now) (waiting_view waiting.now).origin
@@ -47,11 +49,18 @@ pub fn open_request(
 {
     match &waiting.text {
         ProgramText::Code { text, ns } => {
-            open_code(alloc, spaces, &waiting.origin, text, ns, state)
+            open_code(alloc, spaces, &waiting.origin, text, ns, state, aside)
         }
         ProgramText::File(text) => {
             let manner = Manner::LastForm(Value::Nil);
-            open_in(alloc, &waiting.origin, manner, &state.namespace, text)
+            open_in(
+                alloc,
+                &waiting.origin,
+                manner,
+                &state.namespace,
+                text,
+                aside,
+            )
         }
     }
 }
@@ -63,16 +72,20 @@ fn open_code(
     text: &String,
     ns: &Option<Ben>,
     state: &SessionState,
+    aside: &mut Aside,
 ) -> Result<Opened, AllocError>
     ensures { (r : Readings) → AreRight r → IfOk result (λ made. opened_view made
         ≡ opened_code r (namespaces_of spaces.now) (origin_view (arc_value origin.now))
         (string_bytes text.now) (state_view state.now) (field_view ns.now)) }
 {
     match ns {
-        None => open_in(alloc, origin, Manner::EachForm, &state.namespace, text),
+        None => {
+            let manner = Manner::EachForm;
+            open_in(alloc, origin, manner, &state.namespace, text, aside)
+        }
         Some(ns) => {
             let namespace = namespace_named(alloc, spaces, ns)?;
-            open_elsewhere(alloc, origin, text, namespace)
+            open_elsewhere(alloc, origin, text, namespace, aside)
         }
     }
 }
@@ -82,13 +95,17 @@ fn open_elsewhere(
     origin: &Arc<Origin>,
     text: &String,
     namespace: Option<ArcStr>,
+    aside: &mut Aside,
 ) -> Result<Opened, AllocError>
     ensures { (r : Readings) → AreRight r → IfOk result (λ made. opened_view made
         ≡ opened_elsewhere r (origin_view (arc_value origin.now)) (string_bytes text.now)
         (option_map (λ name. arc_str_bytes name) namespace)) }
 {
     match namespace {
-        Some(namespace) => open_in(alloc, origin, Manner::EachFormElsewhere, &namespace, text),
+        Some(namespace) => {
+            let manner = Manner::EachFormElsewhere;
+            open_in(alloc, origin, manner, &namespace, text, aside)
+        }
         None => Ok(Opened::NamespaceNotFound),
     }
 }
@@ -99,13 +116,14 @@ fn open_in(
     manner: Manner,
     namespace: &ArcStr,
     text: &String,
+    aside: &mut Aside,
 ) -> Result<Opened, AllocError>
     ensures { (r : Readings) → AreRight r → IfOk result (λ made. opened_view made
         ≡ Some (hand_of (origin_view (arc_value origin.now)) (manner_view manner) (arc_str_bytes namespace.now)
         (r.program (string_bytes text.now)))) }
 {
     readings_are_unique();
-    let ProgramForms { forms, fault } = read_all(alloc, text.as_str())?;
+    let ProgramForms { forms, fault } = aside.forms_of(alloc, text.as_str())?;
     let fault = text_fault(alloc, fault)?;
     Ok(Opened::Hand(Hand {
         origin: Arc::try_clone(origin)?,

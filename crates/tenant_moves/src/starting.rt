@@ -21,7 +21,7 @@ use repl_replies::{Body, Origin};
 use repl_sessions::SessionState;
 use repl_values::{Value, copy, copy_text};
 use std::alloc::{AllocError, Global};
-use tenant_parts::{Hand, Run, Waiting};
+use tenant_parts::{Aside, Hand, Run, Waiting};
 
 /// A form that begins: its job, and the same once more to be given out.
 #[derive(Drop)]
@@ -94,7 +94,7 @@ fn end_request(alloc: Global, hand: &Hand, state: SessionState) -> Result<NextFo
         (hand_view hand.now)) }
 {
     let mut news = News::new(alloc, state);
-    news.end_request(&hand.origin, &hand.manner, &hand.fault)?;
+    news.end_request(&hand.origin, &hand.manner, &hand.fault, None)?;
     Ok(NextForm { news, begun: None })
 }
 
@@ -121,7 +121,8 @@ pub fn begin(alloc: Global, mut hand: Hand, job: Job) -> Hand
     hand
 }
 
-/// Takes up a request, whose session has this state: its text is read, and its first form begins.
+/// Takes up a request, whose session has this state: its text is read, unless it was before, and
+/// its first form begins.
 /// It fails only for want of memory.
 pub fn begin_request(
     alloc: Global,
@@ -129,12 +130,13 @@ pub fn begin_request(
     spaces: &Spaces,
     waiting: &Waiting,
     state: SessionState,
+    aside: &mut Aside,
 ) -> Result<BegunRequest, AllocError>
     ensures { (g : Ground) → AreRight g.readings → retries ≡ g.retries → IfOk result (BeginsRequest
         (text_begun g (namespaces_of spaces.now) (waiting_view waiting.now).origin
         (state_view state) (waiting_view waiting.now).text)) }
 {
-    match open_request(alloc, spaces, waiting, &state)? {
+    match open_request(alloc, spaces, waiting, &state, aside)? {
         Opened::Hand(hand) => begin_hand(alloc, retries, hand, state),
         Opened::NamespaceNotFound => refuse(alloc, &*waiting.origin, state),
     }

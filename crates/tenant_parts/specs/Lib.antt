@@ -5,6 +5,9 @@ pub mod View
 pub mod Queues
 pub mod Lent
 pub mod Replies
+pub mod Printed
+pub mod Aside
+pub mod Ahead
 pub mod Thrice
 pub mod Attempts
 pub mod Sound

@@ -1,12 +1,13 @@
 // An actor, which runs the forms of its requests one after another.
-ghost use Rattle.std.specs.Prelude.{◌≡◌, [], true, option_map, OnOk, OnErr};
+ghost use Rattle.std.specs.Prelude.{◌≡◌, [], true, option_map, option_copied, OnOk, OnErr};
 ghost use Rattle.server_rules.specs.Machine.Ready.{may_begin};
 ghost use Rattle.server_rules.specs.Tenant.{unoccupied};
 ghost use Rattle.tenant_parts.specs.States.{waiting_view, hand_view, actor_view};
+ghost use Rattle.tenant_parts.specs.Ahead.{next_text, tells_value};
 ghost use Rattle.tenant_parts.specs.Busy.{is_busy};
 ghost use Rattle.tenant_parts.specs.Queues.{with_request, without_newest};
 
-use crate::request::{Hand, Waiting};
+use crate::request::{Hand, Manner, ProgramText, Waiting};
 use std::alloc::{AllocError, Global};
 use std::collections::VecDeque;
 
@@ -47,6 +48,33 @@ impl ActorState {
         ensures { result ≡ is_busy (actor_view self.now) }
     {
         self.hand.is_some() || !self.waiting.is_empty()
+    }
+
+    /// The text of the request that it takes up next, if nothing is in hand and one waits.
+    pub fn next_text(&self) -> Option<&str>
+        ensures { option_copied result ≡ next_text (actor_view self.now) }
+    {
+        if self.hand.is_some() {
+            return None;
+        }
+        match &self.waiting.front()?.text {
+            ProgramText::Code { text, ns: _ } => Some(text.as_str()),
+            ProgramText::File(text) => Some(text.as_str()),
+        }
+    }
+
+    /// Whether the value of its form is told when the form ends.
+    pub fn tells_value(&self) -> bool
+        ensures { result ≡ tells_value (actor_view self.now) }
+    {
+        let Some(hand) = &self.hand else {
+            return false;
+        };
+        match &hand.manner {
+            Manner::EachForm | Manner::EachFormElsewhere => true,
+            Manner::LastForm(_) => hand.forms.is_empty(),
+            Manner::OfAction(_) => false,
+        }
     }
 
     // Lets a request wait behind the others.

@@ -76,12 +76,13 @@ impl Actors {
         }
     }
 
-    /// Takes the actor of this name away, if it is there.
-    pub fn remove(&mut self, actor: Actor)
+    /// Takes the actor of this name away, if it is there, and gives it.
+    pub fn remove(&mut self, actor: Actor) -> Option<ActorState>
         ensures { actors_view self.new ≡ without (seat_of actor) (actors_view self.old) }
     {
-        drop(self.live.remove(&actor));
+        let state = self.live.remove(&actor);
         take_off(&mut self.busy, actor);
+        state
     }
 
     /// Adds an actor behind all others. It fails only for want of memory.

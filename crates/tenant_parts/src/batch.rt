@@ -1,5 +1,6 @@
 // The replies that a step makes.
 ghost use Rattle.std.specs.Prelude.{◌≡◌, [], ◌∷◌, ◌++◌, map, option_map, string_bytes, IfOk, OnOk};
+ghost use Rattle.std.specs.Prelude.{option_copied};
 ghost use Rattle.value_data.specs.Inside.View.{view};
 ghost use Rattle.repl_values.specs.Inside.FaultView.{failure_of};
 ghost use Rattle.repl_asks.specs.Inside.Jobs.{finished_view};
@@ -8,6 +9,7 @@ ghost use Rattle.repl_replies.specs.Inside.View.{origin_view, body_view};
 ghost use Rattle.server_rules.specs.Replying.{reply, fault_line, fault_replies, output_replies};
 ghost use Rattle.server_rules.specs.Replying.{value_reply};
 ghost use Rattle.server_rules.specs.Moves.{end_replies};
+ghost use Rattle.tenant_parts.specs.Printed.{PrintsValue, PrintsEnd};
 ghost use Rattle.tenant_parts.specs.Replies.{made_bytes};
 
 use repl_asks::{End, Finished};
@@ -74,17 +76,24 @@ impl Batch {
         Ok(())
     }
 
-    /// Adds a value as it is printed, with the namespace.
+    /// Adds a value as it is printed, with the namespace. It is printed now, unless it was before.
     pub fn add_value(
         &mut self,
         origin: &Origin,
         namespace: &str,
         value: &Value,
+        printed: Option<&str>,
     ) -> Result<(), AllocError>
+        requires { PrintsValue (option_copied printed) (view value.now) }
         ensures { OnOk result (made_bytes self.new
             ≡ made_bytes self.old ++ map bytes_of
             (value_reply (origin_view origin.now) namespace.now (view value.now) ∷ [])) }
     {
+        if let Some(text) = printed {
+            let bytes = origin.value_bytes(self.alloc, text, namespace)?;
+            self.replies.push(bytes)?;
+            return Ok(());
+        }
         let mut text = String::new(self.alloc);
         print_into(self.alloc, value, &mut text)?;
         let bytes = origin.value_bytes(self.alloc, text.as_str(), namespace)?;
@@ -93,14 +102,22 @@ impl Batch {
     }
 
     /// Adds how a form ended: first what it printed, and then its value or its fault.
-    pub fn add_end(&mut self, origin: &Origin, finished: &Finished) -> Result<(), AllocError>
+    pub fn add_end(
+        &mut self,
+        origin: &Origin,
+        finished: &Finished,
+        printed: Option<&str>,
+    ) -> Result<(), AllocError>
+        requires { PrintsEnd (option_copied printed) (finished_view finished.now) }
         ensures { OnOk result (made_bytes self.new
             ≡ made_bytes self.old ++ map bytes_of
             (end_replies (origin_view origin.now) (finished_view finished.now))) }
     {
         self.add_output(origin, finished.text())?;
         match finished.end() {
-            End::Value(value) => self.add_value(origin, finished.namespace().as_str(), value),
+            End::Value(value) => {
+                self.add_value(origin, finished.namespace().as_str(), value, printed)
+            }
             End::Fault(fault) => self.add_fault(origin, fault),
         }
     }

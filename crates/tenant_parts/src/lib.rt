@@ -4,21 +4,25 @@
 
 mod actor;
 mod actors;
+mod aside;
 mod attempts;
 mod batch;
 mod calling;
 mod outbox;
 mod queues;
+mod read_text;
 mod request;
 mod telling;
 mod thrice;
 
 pub use actor::ActorState;
 pub use actors::Actors;
+pub use aside::{Aside, Left};
 pub use attempts::Attempts;
 pub use batch::Batch;
 pub use calling::call;
 pub use outbox::Outbox;
+pub use read_text::ReadText;
 pub use request::{Hand, Manner, ProgramText, Run, Waiting};
 pub use telling::is_told;
 pub use thrice::Thrice;

@@ -7,6 +7,8 @@ ghost use Rattle.server_rules.specs.Request as rules;
 ghost use Rattle.server_rules.specs.Store.{Store};
 ghost use Rattle.server_rules.specs.Tenant.{Quiet};
 ghost use Rattle.server_rules.specs.Ending.{end_of, end_accepted};
+ghost use Rattle.tenant_parts.specs.Aside.{printed_in};
+ghost use Rattle.tenant_parts.specs.Printed.{PrintsEnd};
 ghost use Rattle.tenant_parts.specs.View.{actor_view, run_view};
 ghost use Rattle.server_rules.specs.Grounds.{IsRight};
 ghost use Rattle.server_rules.specs.DeedResult.{carried_out};
@@ -28,7 +30,7 @@ use server_rules::{Actor, Refusal};
 use std::alloc::{AllocError, Global};
 use tenant_asks::{Memory, interrupt};
 use tenant_moves::{After, form_end, go_on};
-use tenant_parts::{ActorState, Attempts, Run};
+use tenant_parts::{ActorState, Aside, Attempts, Left, Run};
 use trace_comparison::laws::{equal_traces_differ_nowhere, first_difference_is_unique};
 use trace_comparison::{first_difference, same_job};
 
@@ -40,7 +42,9 @@ pub(crate) fn end(
     actor: Actor,
     state: &mut ActorState,
     ending: &Ending<'_>,
+    aside: &mut Aside,
 ) -> Result<EndAnswer, Refusal>
+    requires { PrintsEnd (printed_in aside.old) (told_ending ending.now).end }
     ensures acted { (g : Ground) (q : Quiet) (s : Store) → IsRight g
         → Remembers g s.tenant memory.old q → Reaches attempts.old s
         → let d = carried_out s (end_of g actor (actor_view state.old) (told_ending ending.now) q
@@ -61,7 +65,15 @@ pub(crate) fn end(
         result }
 {
     compare_if_due(memory, state, ending)?;
-    finish(alloc, memory, attempts, actor, state, ending.finished)
+    finish(
+        alloc,
+        memory,
+        attempts,
+        actor,
+        state,
+        ending.finished,
+        aside,
+    )
 }
 
 /// The form of the actor that runs has ended so, by the job and the trace that are kept of it;
@@ -73,7 +85,9 @@ pub(crate) fn finish(
     actor: Actor,
     state: &mut ActorState,
     finished: &Finished,
+    aside: &mut Aside,
 ) -> Result<EndAnswer, Refusal>
+    requires { PrintsEnd (printed_in aside.old) (finished_view finished.now) }
     ensures acted { (g : Ground) (q : Quiet) (s : Store) (e : EndingData)
         → e.end ≡ finished_view finished.now → PassesComparison g (actor_view state.old) q e
         → Remembers g s.tenant memory.old q → Reaches attempts.old s
@@ -108,7 +122,7 @@ pub(crate) fn finish(
     if memory.outbox.is_held() {
         return Err(Refusal::Held);
     }
-    accept(alloc, memory, actor, state, finished)?;
+    accept(alloc, memory, actor, state, finished, aside)?;
     attempts.leave(actor);
     Ok(EndAnswer::Finished)
 }
@@ -167,7 +181,9 @@ fn accept(
     actor: Actor,
     state: &mut ActorState,
     finished: &Finished,
+    aside: &mut Aside,
 ) -> Result<(), AllocError>
+    requires { PrintsEnd (printed_in aside.old) (finished_view finished.now) }
     ensures acted { (g : Ground) (q : Quiet) (s : Store) (h : rules.Hand) (run : rules.Run)
         (e : EndingData) → e.end ≡ finished_view finished.now
         → Remembers g s.tenant memory.old q → (actor_view state.old).hand ≡ Some h
@@ -186,19 +202,30 @@ fn accept(
     };
     let agents = &mut memory.cells.agents;
     let end = prepare_end(alloc, agents, actor, hand, finished.end())?;
-    let (news, after) = form_end(alloc, hand, finished, session)?;
+    let (news, after) = form_end(alloc, hand, finished, aside.printed(), session)?;
     memory.post_news(actor, news)?;
     settle_end(&mut memory.cells.agents, end);
-    put_after(state, after);
+    aside.left = put_after(state, after);
     Ok(())
 }
 
-// The request goes on behind a form, or is done.
-fn put_after(state: &mut ActorState, after: After)
+// The request goes on behind a form, or is done. What it needs no more is given.
+fn put_after(state: &mut ActorState, after: After) -> Left
     ensures { (h : rules.Hand) → (actor_view state.old).hand ≡ Some h
         → actor_view state.new ≡ record (actor_view state.old) { hand = hand_after h after } }
 {
-    if let Some(hand) = state.hand.take() {
-        state.hand = go_on(hand, after);
+    let Some(mut hand) = state.hand.take() else {
+        return Left::Nothing;
+    };
+    match after {
+        After::Over => Left::Hand(hand),
+        next => {
+            let run = hand.running.take();
+            state.hand = go_on(hand, next);
+            match run {
+                Some(run) => Left::Form(run),
+                None => Left::Nothing,
+            }
+        }
     }
 }

@@ -56,13 +56,13 @@ fn check(actors: &Actors, steps: u32, actor: Actor) -> Result<(), Refusal>
     Ok(())
 }
 
-/// Behind its step the actor is gone, or it rests.
-pub(crate) fn leave(actors: &mut Actors, actor: Actor, is_gone: bool)
+/// Behind its step the actor is gone, and given, or it rests.
+pub(crate) fn leave(actors: &mut Actors, actor: Actor, is_gone: bool) -> Option<ActorState>
     ensures { actors_view actors.new ≡ left_after is_gone actor (actors_view actors.old) }
 {
     if is_gone {
-        actors.remove(actor);
-    } else {
-        actors.rest(actor);
+        return actors.remove(actor);
     }
+    actors.rest(actor);
+    None
 }

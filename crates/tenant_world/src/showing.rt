@@ -1,13 +1,14 @@
 // A tenant as it begins, and what it shows.
 ghost use Rattle.std.specs.Prelude.{◌≡◌, ◌≢◌, ◌+◌, ◌<◌, ℕ, List, [], ◌∷◌, option_map, IfOk};
-ghost use Rattle.std.specs.Prelude.{OnErr, MatchOption, IfSome, true, false};
+ghost use Rattle.std.specs.Prelude.{OnErr, MatchOption, IfSome, true, false, option_copied};
 ghost use Rattle.name_spaces.specs.Inside.Seen.{shared_bindings};
 ghost use Rattle.server_rules.specs.Ground.{Ground};
 ghost use Rattle.server_rules.specs.Tenant.{Quiet, opened_quiet};
 ghost use Rattle.server_rules.specs.Machine.Ready.{ready};
 ghost use Rattle.server_rules.specs.Plan as deeds;
 ghost use Rattle.server_rules.specs.Plan.{reply_given};
-ghost use Rattle.tenant_parts.specs.View.{run_view};
+ghost use Rattle.tenant_parts.specs.Ahead.{next_text_of, tells_value_of};
+ghost use Rattle.tenant_parts.specs.View.{run_view, actors_view};
 ghost use Rattle.server_rules.specs.Grounds.{IsRight};
 ghost use Rattle.server_rules.specs.Store.{Store};
 ghost use Rattle.server_rules.specs.DeedResult.{deed_result};
@@ -148,6 +149,23 @@ impl Tenant {
             → option_map (λ run. run_view run.now) result ≡ running_in actor q }
     {
         self.actors.get(actor)?.hand.as_ref()?.running.as_ref()
+    }
+
+    /// The text of the request that an actor takes up next, if nothing of it is in hand and one waits.
+    pub fn next_text(&self, actor: Actor) -> Option<&str>
+        ensures { option_copied result ≡ next_text_of actor (actors_view self.now.actors) }
+    {
+        self.actors.get(actor)?.next_text()
+    }
+
+    /// Whether the value of an actor's form is told when the form ends.
+    pub fn tells_value(&self, actor: Actor) -> bool
+        ensures { result ≡ tells_value_of actor (actors_view self.now.actors) }
+    {
+        match self.actors.get(actor) {
+            Some(state) => state.tells_value(),
+            None => false,
+        }
     }
 
     /// Whether all its steps are used up: then it only gives its replies. It takes no memory.

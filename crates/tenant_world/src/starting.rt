@@ -23,7 +23,7 @@ use server_rules::{Actor, Refusal};
 use std::alloc::{AllocError, Global};
 use tenant_asks::{Memory, interrupt};
 use tenant_moves::{Begun, BegunRequest, NextForm, begin, begin_request, next_form};
-use tenant_parts::{ActorState, Hand, Waiting};
+use tenant_parts::{ActorState, Aside, Hand, Left, Waiting};
 
 /// The actor begins its next form, or takes up its next request. Where it is refused nothing has
 /// changed.
@@ -33,6 +33,7 @@ pub(crate) fn start(
     retries: u32,
     actor: Actor,
     state: &mut ActorState,
+    aside: &mut Aside,
 ) -> Result<StartAnswers, Refusal>
     ensures acted { (g : Ground) (t : ℕ) (q : Quiet) → IsRight g → retries ≡ g.retries
         → Remembers g t memory.old q → IfOk result (λ s. AcceptsOutcome g t actor q
@@ -49,7 +50,7 @@ pub(crate) fn start(
         result }
 {
     let Some(hand) = &state.hand else {
-        return start_request(alloc, memory, retries, actor, state);
+        return start_request(alloc, memory, retries, actor, state, aside);
     };
     if hand.running.is_some() {
         return Err(Refusal::Idle);
@@ -162,6 +163,7 @@ fn start_request(
     retries: u32,
     actor: Actor,
     state: &mut ActorState,
+    aside: &mut Aside,
 ) -> Result<StartAnswers, Refusal>
     ensures acted { (g : Ground) (t : ℕ) (q : Quiet) → IsRight g → retries ≡ g.retries
         → Remembers g t memory.old q → (actor_view state.old).hand ≡ None
@@ -193,10 +195,11 @@ fn start_request(
         &memory.spaces,
         waiting,
         session,
+        aside,
     )?;
     let answers = StartAnswers::of(answer_of(given))?;
     memory.post_news(actor, news)?;
-    put_next_in_hand(state, hand);
+    leave_request(aside, put_next_in_hand(state, hand));
     Ok(answers)
 }
 
@@ -206,13 +209,20 @@ fn oldest(state: &ActorState) -> Option<&Waiting>
     state.waiting.front()
 }
 
-// The oldest request waits no longer, and what is in hand is this.
-fn put_next_in_hand(state: &mut ActorState, hand: Option<Hand>)
+// The oldest request waits no longer, and is given; and what is in hand is this.
+fn put_next_in_hand(state: &mut ActorState, hand: Option<Hand>) -> Option<Waiting>
     ensures { actor_view state.new
         ≡ with_next_in_hand (option_map hand_view hand) (actor_view state.old) }
 {
-    drop(state.waiting.pop_front());
+    let begun = state.waiting.pop_front();
     state.hand = hand;
+    begun
+}
+
+fn leave_request(aside: &mut Aside, request: Option<Waiting>) {
+    if let Some(request) = request {
+        aside.left = Left::Request(request);
+    }
 }
 
 fn answer_of(given: Option<Job>) -> StartAnswer

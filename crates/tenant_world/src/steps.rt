@@ -11,6 +11,8 @@ ghost use Rattle.tenant_world.specs.Answers.{start_answer_view, end_answer_view}
 ghost use Rattle.tenant_asks.specs.Answers.{ask_answer_view, AreSameAnswers};
 ghost use Rattle.tenant_world.specs.Answers.{told_ending, AreSameStarts};
 ghost use Rattle.tenant_asks.specs.Acting.{actors_after};
+ghost use Rattle.tenant_parts.specs.Aside.{printed_in};
+ghost use Rattle.tenant_parts.specs.Printed.{PrintsEnd};
 ghost use Rattle.tenant_parts.specs.Attempts.{Reaches};
 ghost use Rattle.tenant_asks.specs.Memories.{Remembers};
 
@@ -24,6 +26,7 @@ use ref_table::RefTable;
 use repl_asks::{Ask, Finished};
 use server_rules::{Actor, Refusal};
 use tenant_asks::{AskAnswer, AskAnswers, ask};
+use tenant_parts::{ActorState, Aside, Left};
 
 impl Tenant {
     ghost use Rattle.tenant_world.specs.Standing.{QuietStands, Lends, CountsStep};
@@ -38,11 +41,11 @@ impl Tenant {
         ensures no_memory { LacksMemory (starts actor) self.old result }
         ensures counted { CountsStep self.old self.new result }
     {
-        Ok(self.start_copied(actor)?.given)
+        Ok(self.start_copied(actor, &mut Aside::nothing())?.given)
     }
 
-    /// The same, with its answer twice.
-    pub fn start_copied(&mut self, actor: Actor) -> Result<StartAnswers, Refusal>
+    /// The same, with its answer twice. A text that was read before is not read again.
+    pub fn start_copied(&mut self, actor: Actor, aside: &mut Aside) -> Result<StartAnswers, Refusal>
         ensures done { DoesBy actor (starts actor) self.old self.new result
             (λ it. start_answer_view it.given) }
         ensures refused { Declines (starts actor) self.old self.new result }
@@ -51,8 +54,15 @@ impl Tenant {
         ensures counted { CountsStep self.old self.new result }
     {
         let state = lend(&mut self.actors, self.steps, actor)?;
-        let started = start(self.alloc, &mut self.memory, self.retries, actor, state)?;
-        self.settle(actor, started.given.is_interrupted());
+        let started = start(
+            self.alloc,
+            &mut self.memory,
+            self.retries,
+            actor,
+            state,
+            aside,
+        )?;
+        self.settle(actor, started.given.is_interrupted(), aside);
         Ok(started)
     }
 
@@ -74,7 +84,10 @@ impl Tenant {
         ensures counter { counter_of refs.new ≤ counter_of refs.old + 1 }
         ensures failed { OnErr result (counter_of refs.new ≡ counter_of refs.old) }
     {
-        Ok(self.answer_copied(refs, actor, asked)?.given)
+        Ok(
+            self.answer_copied(refs, actor, asked, &mut Aside::nothing())?
+                .given,
+        )
     }
 
     /// The same, with its answer twice.
@@ -83,6 +96,7 @@ impl Tenant {
         refs: &mut RefTable<RingHistory>,
         actor: Actor,
         asked: &Ask,
+        aside: &mut Aside,
     ) -> Result<AskAnswers, Refusal>
         requires { counter_of refs.old < u128.MAX }
         ensures done { DoesAsk actor (ask_view asked.now) self.old self.new refs.old refs.new
@@ -105,12 +119,18 @@ impl Tenant {
             state,
             asked,
         )?;
-        self.settle(actor, answered.given.is_interrupted());
+        self.settle(actor, answered.given.is_interrupted(), aside);
         Ok(answered)
     }
 
     /// The form of the actor that runs has ended so.
-    pub fn end_form(&mut self, actor: Actor, ending: &Ending<'_>) -> Result<EndAnswer, Refusal>
+    pub fn end_form(
+        &mut self,
+        actor: Actor,
+        ending: &Ending<'_>,
+        aside: &mut Aside,
+    ) -> Result<EndAnswer, Refusal>
+        requires { PrintsEnd (printed_in aside.old) (told_ending ending.now).end }
         ensures done { DoesBy actor (ends actor (told_ending ending.now)) self.old self.new
             result end_answer_view }
         ensures refused { Declines (ends actor (told_ending ending.now)) self.old self.new result }
@@ -125,14 +145,21 @@ impl Tenant {
             actor,
             state,
             ending,
+            aside,
         )?;
-        self.settle(actor, ended.is_interrupted());
+        self.settle(actor, ended.is_interrupted(), aside);
         Ok(ended)
     }
 
     /// The form of the actor that runs is finished so, by the job and the trace that are kept of
     /// it. Nothing is compared: it takes as long for a long trace as for a short one.
-    pub fn finish(&mut self, actor: Actor, finished: &Finished) -> Result<EndAnswer, Refusal>
+    pub fn finish(
+        &mut self,
+        actor: Actor,
+        finished: &Finished,
+        aside: &mut Aside,
+    ) -> Result<EndAnswer, Refusal>
+        requires { PrintsEnd (printed_in aside.old) (finished_view finished.now) }
         ensures done { DoesEnd actor (finished_view finished.now) self.old self.new result
             end_answer_view }
         ensures refused { DeclinesEnd actor (finished_view finished.now) self.old self.new result }
@@ -147,13 +174,14 @@ impl Tenant {
             actor,
             state,
             finished,
+            aside,
         )?;
-        self.settle(actor, ended.is_interrupted());
+        self.settle(actor, ended.is_interrupted(), aside);
         Ok(ended)
     }
 
     // The step is accepted: its actor rests, or is gone where its request was interrupted.
-    fn settle(&mut self, actor: Actor, is_interrupted: bool)
+    fn settle(&mut self, actor: Actor, is_interrupted: bool, aside: &mut Aside)
         requires { 0 < self.old.steps }
         ensures steps { self.old.steps ≡ self.new.steps + 1 }
         ensures stands { (g : Ground) (q after : Quiet) (s : Store) (state : ActorData)
@@ -163,7 +191,13 @@ impl Tenant {
             → after.steps ≡ q.steps → after.heard ≡ q.heard
             → QuietStands g self.new (with_step_spent after) s }
     {
-        leave(&mut self.actors, actor, is_interrupted);
+        leave_actor(aside, leave(&mut self.actors, actor, is_interrupted));
         self.steps -= 1;
+    }
+}
+
+fn leave_actor(aside: &mut Aside, state: Option<ActorState>) {
+    if let Some(state) = state {
+        aside.left = Left::Actor(state);
     }
 }

@@ -32,3 +32,13 @@ pub returns-in-Ok-hear-clause-written : goal.returns-in-Ok-hear-clause-written
 returns-in-Ok-hear-clause-written c = λ config keeps.
     same-written config c.args.journal.now.items c.hear.new.journal.items _ _ _ _
     (ap step_view c.in-Hear.is) refl (c.in-Ok-hear.ensures.written config keeps)
+
+pub returns-in-Ok-open-clause-written : goal.returns-in-Ok-open-clause-written
+returns-in-Ok-open-clause-written c = λ config keeps.
+    same-written config c.args.journal.now.items c.open.new.journal.items _ _ _ _
+    (ap step_view c.in-Open.is) refl (c.in-Ok-open.ensures.written config keeps)
+
+pub returns-in-Ok-bye-clause-written : goal.returns-in-Ok-bye-clause-written
+returns-in-Ok-bye-clause-written c = λ config keeps.
+    same-written config c.args.journal.now.items c.bye.new.journal.items _ _ _ _
+    (ap step_view c.in-Bye.is) refl (c.in-Ok-bye.ensures.written config keeps)

@@ -1,54 +1,8 @@
-use Rattle.std.proofs.Common.{◌+◌, ◌∙◌, length, sym, ap, subst, refl}
-use Rattle.repl_core.specs.Steps.{step_view, step_answer_view}
-use Rattle.journal_book.specs.View.{BookData, entries}
-use Rattle.journal_book.specs.Standing.{IsAnswered, IsRefused, Notes, entry}
-use Rattle.journal_book.proofs.Keeping.{err-so}
+use Rattle.repl_core.specs.Steps.{step_view}
+use Rattle.tenant_parts.specs.Aside.{printed_in}
+use Rattle.journal_book.proofs.Printing.{not-printed}
 use Rattle.journal_book.proofs.book.Book.act.Goals as goal
 
-pub invariant_of-self : goal.invariant_of-self
-invariant_of-self g c =
-    let kept = c.self.invariant in (
-      c.write.ensures.keeps c.self.inside.config kept.0,
-      kept.1 ∙ ap length (sym c.in_err-answer.ensures.stays),
-      kept.2,
-      kept.3,
-      kept.4,
-    )
-
-pub invariant_of-self-2 : goal.invariant_of-self-2
-invariant_of-self-2 g c =
-    let kept = c.self.invariant in (
-      c.write.ensures.keeps c.self.inside.config kept.0,
-      c.count.ensures.total ∙ ap (λ n. n + 1) kept.1 ∙ sym c.in_ok-answer.ensures.one.0,
-      kept.2,
-      kept.3,
-      kept.4,
-    )
-
-pub returns-in_err-answer-clause-refused : goal.returns-in_err-answer-clause-refused
-returns-in_err-answer-clause-refused g c =
-    let why = c.in_err-answer.field-0.0.why in
-    let P : BookData → Type 0 = λ b. IsRefused b.config (entries b.journal) (step_view c.args.step) why in
-    err-so _ c.from_residual.result c.in_err-answer.field-0.0 c.from_residual.ensures.1
-    (subst P c.self.view_is
-    (c.in_err-answer.ensures.declined c.self.inside.config c.self.invariant.0))
-
-pub returns-clause-answer : goal.returns-clause-answer
-returns-clause-answer g c =
-    let P : BookData → Type 0 = λ b. IsAnswered b.config (entries b.journal) (step_view c.args.step)
-    (step_answer_view c.in_ok-answer.answer) in
-    subst P c.self.view_is
-    (c.in_ok-answer.ensures.written c.self.inside.config c.self.invariant.0).1
-
-pub returns-clause-journal : goal.returns-clause-journal
-returns-clause-journal g c =
-    let after : BookData = record {
-      config = c.self.inside.config;
-      journal = c.write.new.journal.items;
-      tenants = c.self.inside.tenants;
-    } in
-    let P : BookData → Type 0 = λ b. Notes b after (entry (step_view c.args.step) (step_answer_view c.in_ok-answer.answer)) in
-    subst P c.self.view_is (record {
-      config = refl;
-      journal = (c.in_ok-answer.ensures.written c.self.inside.config c.self.invariant.0).0;
-    })
+pub act_with-requires-clause-printed : goal.act_with-requires-clause-printed
+act_with-requires-clause-printed g c =
+    not-printed (printed_in c.nothing.result.aside) (step_view c.args.step) c.nothing.ensures

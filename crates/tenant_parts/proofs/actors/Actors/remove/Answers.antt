@@ -7,8 +7,8 @@ use Rattle.tenant_parts.proofs.actors.Actors.remove.Goals as goal
 
 pub returns : goal.returns
 returns c =
-    removed-seen c.args.actor c.args.self.now.live.entries c.remove.new.self.entries
-    c.remove.ensures.entries c.remove.ensures.updates.1
+    removed-seen c.args.actor c.args.self.now.live.entries c.remove-state.new.self.entries
+    c.remove-state.ensures.entries c.remove-state.ensures.updates.1
 
 pub invariant_of-self : goal.invariant_of-self
 invariant_of-self c =
@@ -16,8 +16,8 @@ invariant_of-self c =
     let was = self.live.entries in
     let left = c.take_off.new.busy in
     record {
-      listed = ap (are_listed left) (removed-seen c.args.actor was c.remove.new.self.entries
-          c.remove.ensures.entries c.remove.ensures.updates.1)
+      listed = ap (are_listed left) (removed-seen c.args.actor was c.remove-state.new.self.entries
+          c.remove-state.ensures.entries c.remove-state.ensures.updates.1)
           ∙ listed-gone self.busy left (seat_of c.args.actor) (seen was)
           c.take_off.ensures.apart self.listed;
       agents = c.take_off.ensures.agents self.agents;

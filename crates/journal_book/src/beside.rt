@@ -1,0 +1,35 @@
+// What goes beside an act and is no part of it.
+ghost use Rattle.std.specs.Prelude.{◌≡◌, None};
+ghost use Rattle.tenant_parts.specs.Aside.{printed_in};
+
+use repl_walker::{Ending, Walk};
+use std::boxed::Box;
+use tenant_parts::Aside;
+use tenant_world::Tenant;
+
+/// What was done for an act beforehand, and what it leaves to nobody. Whoever has a book under a lock
+/// frees that behind it.
+#[derive(Drop)]
+pub struct Beside {
+    pub aside: Aside,
+    /// The ending of a form that is finished: the journal keeps none of it but how it ended.
+    pub ending: Option<Box<Ending>>,
+    /// The evaluation of a form that was interrupted.
+    pub walk: Option<Walk>,
+    /// A tenant that is gone.
+    pub tenant: Option<Box<Tenant>>,
+}
+
+impl Beside {
+    /// Nothing was done, and nothing is left.
+    pub fn nothing() -> Beside
+        ensures { printed_in result.aside ≡ None }
+    {
+        Beside {
+            aside: Aside::nothing(),
+            ending: None,
+            walk: None,
+            tenant: None,
+        }
+    }
+}

@@ -1,0 +1,53 @@
+-- What an actor is about to do.
+use Rattle.std.specs.Prelude.{ℕ, Bool, true, false, List, [], ◌∷◌, Option, None, Some, option_and_then}
+use Rattle.value_data.specs.Datum.{Items, no_items, item}
+use Rattle.server_rules.specs.Numbered.{Entry, part_under}
+use Rattle.server_rules.specs.Request.{ProgramText, code, file, Waiting, Hand, Manner}
+use Rattle.server_rules.specs.Request.{each_form, each_form_elsewhere, last_form, of_action}
+use Rattle.server_rules.specs.Tenant.{ActorData, seat_of}
+use Rattle.server_rules.specs.declared.actor.Actor.{Actor}
+
+abbrev bytes_of : ProgramText → List ℕ
+bytes_of (code text ns) = text
+bytes_of (file text) = text
+
+abbrev oldest_text : List Waiting → Option (List ℕ)
+oldest_text [] = None
+oldest_text (w ∷ ws) = Some (bytes_of w.text)
+
+abbrev text_behind : Option Hand → List Waiting → Option (List ℕ)
+text_behind None waiting = oldest_text waiting
+text_behind (Some h) waiting = None
+
+-- the text of the request that it takes up next, if nothing is in hand
+abbrev pub next_text : ActorData → Option (List ℕ)
+next_text a = text_behind a.hand a.waiting
+
+abbrev pub told_in : Manner → Items → Bool
+told_in each_form forms = true
+told_in each_form_elsewhere forms = true
+told_in (last_form d) no_items = true
+told_in (last_form d) (item e es) = false
+told_in (of_action session) forms = false
+
+abbrev pub told_of : Option Hand → Bool
+told_of None = false
+told_of (Some h) = told_in h.manner h.forms
+
+-- whether the value of its form is told when the form ends
+abbrev pub tells_value : ActorData → Bool
+tells_value a = told_of a.hand
+
+-- the actor of this name, if it is there
+abbrev pub actor_named : Actor → List (Entry ActorData) → Option ActorData
+actor_named a es = part_under (seat_of a) es
+
+abbrev pub next_text_of : Actor → List (Entry ActorData) → Option (List ℕ)
+next_text_of a es = option_and_then next_text (actor_named a es)
+
+abbrev some_tells : Option ActorData → Bool
+some_tells None = false
+some_tells (Some a) = tells_value a
+
+abbrev pub tells_value_of : Actor → List (Entry ActorData) → Bool
+tells_value_of a es = some_tells (actor_named a es)
