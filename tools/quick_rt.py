@@ -7,10 +7,10 @@ through crates.txt that leads there: some 260,000 of them for the crates on top,
 first check begins. Here both are asked once, and answered the same (test_gate.py).
 
 `rt ci` counts the tests of a crate that has none as work that waits, and so gives a library for
-which all others wait one job where three processors are idle. Here it gets those that no other
-proof has; and one with much code gets three in any case, since it goes on when the others of its
-time are done, and then with the jobs that it began with. The number of jobs changes no verdict: the
-kernel checks each item once.
+which all others wait, and the program behind them all, one job where three processors are idle. Here
+it gets those that no other proof has; and a library with much code gets three in any case, since it
+goes on when the others of its time are done, and then with the jobs that it began with. The number of
+jobs changes no verdict: the kernel checks each item once.
 
 `rt ci` says of must-fail edits what came of them when all is done; here also when a crate's edits
 are done. Where MINUTES_FOR_EDITS is set, it begins with no crate's edits once edits took so many
@@ -30,7 +30,7 @@ PROCESSORS = len(os.sched_getaffinity(0))
 # Of more a check has been seen to make little use.
 MOST_JOBS = 4
 # What a library has of code, in lines of src/, that takes the longest.
-MUCH_CODE, JOBS_FOR_MUCH = 1000, 3
+MUCH_CODE, JOBS_FOR_MUCH = 400, 3
 SECONDS_TO_BEGIN = 0.2
 
 
@@ -117,8 +117,9 @@ def for_so_long(must_fail_all, seconds):
 
 
 def with_idle_processors(ci):
-    """The same proof; that of a library has a job for each processor that no other proof has, but
-    at most four, since crates wait for it, and three at least if it has much code."""
+    """The same proof; that of a library or a program has a job for each processor that no other
+    proof has, but at most four; a library, since crates wait for it, three at least if it has much
+    code."""
     running, lock = [], threading.Lock()
 
     def proved(crate, flags, tests):
@@ -128,8 +129,10 @@ def with_idle_processors(ci):
         time.sleep(SECONDS_TO_BEGIN)
         idle = PROCESSORS - len(running)
         try:
-            if flags[:1] == ["--jobs"] and crate.makes_rlib() and not tests:
-                has_much = lines_of_code(crate) >= MUCH_CODE
+            is_library = crate.makes_rlib()
+            if flags[:1] == ["--jobs"] and (is_library or crate.is_program) and not tests:
+                # nothing waits for a program
+                has_much = is_library and lines_of_code(crate) >= MUCH_CODE
                 least = min(JOBS_FOR_MUCH, PROCESSORS) if has_much else 1
                 jobs = max(int(flags[1]), least, min(MOST_JOBS, 1 + idle))
                 flags = ["--jobs", str(jobs), *flags[2:]]

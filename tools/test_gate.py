@@ -211,7 +211,8 @@ class Jobs(unittest.TestCase):
         self.assertEqual(self.jobs(one=10, other=10), {"one": 3, "other": 3})
 
     def test_much_code_gets_three_jobs_beside_others(self):
-        found = self.jobs(one=10, two=999, three=10, much=1000)
+        much = quick_rt.MUCH_CODE
+        found = self.jobs(one=10, two=much - 1, three=10, much=much)
         self.assertEqual(found, {"one": 1, "two": 1, "three": 1, "much": 3})
 
     def test_no_more_jobs_than_processors(self):

@@ -73,7 +73,6 @@ impl SharedText {
 }
 
 /// The tenants of a server, and the refs of all. Each step is that of the rules.
-#[derive(Drop)]
 pub struct Machine {
     pub(crate) alloc: Global,
     pub(crate) seed: [u8; 32],
@@ -88,6 +87,23 @@ pub struct Machine {
     pub(crate) names: SharedNames,
     pub(crate) refs: RefTable<RingHistory>,
     pub(crate) tenants: Tenants,
+}
+
+impl Drop for Machine {
+    fn drop(self) {
+        let Machine {
+            alloc: _alloc,
+            seed: _seed,
+            retries: _retries,
+            steps: _steps,
+            places: _places,
+            places_taken: _places_taken,
+            newest: _newest,
+            names: _names,
+            refs: _refs,
+            tenants: _tenants,
+        } = self;
+    }
 }
 
 impl Machine {

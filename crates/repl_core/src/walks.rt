@@ -12,11 +12,19 @@ use std::collections::BTreeMap;
 ///
 /// The evaluation of a form begins when its actor goes on. One that is lost for want of memory is
 /// made again then, over the answers that are recorded: that takes as long as the form took so far.
-#[derive(Drop)]
 pub struct Walks {
     pub(crate) alloc: Global,
     // An actor keeps its place while its evaluation is taken out, so that a step takes no memory.
     pub(crate) live: BTreeMap<Actor, Option<Progress>>,
+}
+
+impl Drop for Walks {
+    fn drop(self) {
+        let Walks {
+            alloc: _alloc,
+            live: _live,
+        } = self;
+    }
 }
 
 // Each takes about the logarithm of the number of forms that run.

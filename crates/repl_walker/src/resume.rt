@@ -6,9 +6,8 @@ ghost use Rattle.evaluation_rules.specs.Evaluation.{evaluation};
 ghost use Rattle.walker_machine.specs.Waits.{reached_tree, most_calls_of, IsLaterReached};
 ghost use Rattle.walker_state.specs.Position.{Position};
 ghost use Rattle.repl_walker.specs.Led.{LedTo};
-ghost use Rattle.repl_walker.specs.Waits.{walk_behind, progress_tree, progress_job, progress_trace};
-ghost use Rattle.repl_walker.specs.Waits.{trace_with};
-ghost use Rattle.repl_walker.specs.Positions.{walk_position, most_calls, IsLaterProgress};
+ghost use Rattle.repl_walker.specs.Waits.{progress_tree, progress_job, progress_trace};
+ghost use Rattle.repl_walker.specs.Positions.{most_calls, IsLaterProgress};
 
 use crate::ending::Ending;
 use crate::waiting::{Progress, Walk};
@@ -30,30 +29,8 @@ pub fn start(alloc: Global, job: &Job) -> Result<Progress, AllocError>
     Ok(progress(copied, Vec::new(alloc), reached))
 }
 
-impl Walk {
-    /// Goes on with this answer, up to the next ask or the end. It fails only for want of memory.
-    pub fn resume(self, alloc: Global, answer: Answer) -> Result<Progress, AllocError>
-        ensures meaning { IfOk result (λ later. progress_tree later
-            ≡ walk_behind self (answer_view answer)) }
-        ensures job { IfOk result (λ later. progress_job later ≡ job_view self.job) }
-        ensures trace { IfOk result (λ later. progress_trace later
-            ≡ trace_with self (answer_view answer)) }
-        ensures later { IfOk result (λ later. IsLaterProgress later (walk_position self)) }
-    {
-        let Walk {
-            job,
-            trace,
-            ask,
-            waiting,
-        } = self;
-        let trace = with_exchange(trace, ask, &answer)?;
-        let reached = waiting.go_on(alloc, answer)?;
-        Ok(progress(job, trace, reached))
-    }
-}
-
-// The trace with one exchange more.
-fn with_exchange(trace: Trace, ask: Ask, answer: &Answer) -> Result<Trace, AllocError>
+/// The trace with one exchange more.
+pub(crate) fn with_exchange(trace: Trace, ask: Ask, answer: &Answer) -> Result<Trace, AllocError>
     ensures { IfOk result (λ longer. trace_view longer.items ≡ trace_view trace.items
         ++ record { ask = ask_view ask; answer = answer_view answer.now } ∷ []) }
 {
@@ -74,8 +51,8 @@ fn add(trace: &mut Trace, exchange: Exchange) -> Result<(), AllocError>
     Ok(())
 }
 
-// How far the job came by this trace.
-fn progress(job: Job, trace: Trace, reached: Reached) -> Progress
+/// How far the job came by this trace.
+pub(crate) fn progress(job: Job, trace: Trace, reached: Reached) -> Progress
     requires { LedTo (job_view job) (trace_view trace.items) (reached_tree reached) }
     ensures meaning { progress_tree result ≡ reached_tree reached }
     ensures job { progress_job result ≡ job_view job }

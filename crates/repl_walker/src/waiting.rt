@@ -1,18 +1,19 @@
 // An evaluation that waits for an answer.
-ghost use Rattle.std.specs.Prelude.{◌≡◌};
-ghost use Rattle.repl_asks.specs.Inside.View.{ask_view, trace_view};
+ghost use Rattle.std.specs.Prelude.{◌≡◌, IfOk};
+ghost use Rattle.repl_asks.specs.Inside.View.{ask_view, answer_view, trace_view};
 ghost use Rattle.repl_asks.specs.Inside.Jobs.{job_view};
 ghost use Rattle.repl_asks.specs.InteractionTree.{asks};
 ghost use Rattle.walker_machine.specs.Waits.{tree_behind};
 ghost use Rattle.repl_walker.specs.Led.{LedTo};
 
 use crate::ending::Ending;
-use repl_asks::{Ask, Exchange, Job, Trace};
+use crate::resume::{progress, with_exchange};
+use repl_asks::{Answer, Ask, Exchange, Job, Trace};
+use std::alloc::{AllocError, Global};
 use walker_machine::WaitingEvaluation;
 
 /// An evaluation that waits for the answer to its ask: its job, and what was asked and answered
 /// before.
-#[derive(Drop)]
 pub struct Walk {
     pub(crate) job: Job,
     pub(crate) trace: Trace,
@@ -21,6 +22,17 @@ pub struct Walk {
     // Its trace led its job to this ask.
     ghost led: { LedTo (job_view job) (trace_view trace.items)
         (asks (ask_view ask) (tree_behind waiting)) },
+}
+
+impl Drop for Walk {
+    fn drop(self) {
+        let Walk {
+            job: _job,
+            trace: _trace,
+            ask: _ask,
+            waiting: _waiting,
+        } = self;
+    }
 }
 
 /// How far an evaluation came: to its next ask, or to its end.
@@ -58,4 +70,30 @@ impl Walk {
         ensures { LedTo (job_view self.now.job) (trace_view self.now.trace.items)
             (asks (ask_view self.now.ask) (tree_behind self.now.waiting)) }
     {}
+}
+
+impl Walk {
+    ghost use Rattle.repl_walker.specs.Waits.{walk_behind, progress_tree, progress_job};
+    ghost use Rattle.repl_walker.specs.Waits.{progress_trace, trace_with};
+    ghost use Rattle.repl_walker.specs.Positions.{walk_position, IsLaterProgress};
+
+    /// Goes on with this answer, up to the next ask or the end. It fails only for want of memory.
+    pub fn resume(self, alloc: Global, answer: Answer) -> Result<Progress, AllocError>
+        ensures meaning { IfOk result (λ later. progress_tree later
+            ≡ walk_behind self (answer_view answer)) }
+        ensures job { IfOk result (λ later. progress_job later ≡ job_view self.job) }
+        ensures trace { IfOk result (λ later. progress_trace later
+            ≡ trace_with self (answer_view answer)) }
+        ensures later { IfOk result (λ later. IsLaterProgress later (walk_position self)) }
+    {
+        let Walk {
+            job,
+            trace,
+            ask,
+            waiting,
+        } = self;
+        let trace = with_exchange(trace, ask, &answer)?;
+        let reached = waiting.go_on(alloc, answer)?;
+        Ok(progress(job, trace, reached))
+    }
 }

@@ -21,7 +21,6 @@ use tenant_moves::News;
 use tenant_parts::{Batch, Outbox};
 
 /// What the requests of a tenant share.
-#[derive(Drop)]
 pub struct Memory {
     pub sessions: Sessions,
     /// What a request without a session remembers.
@@ -30,6 +29,18 @@ pub struct Memory {
     pub cells: Cells,
     /// The replies that wait.
     pub outbox: Outbox,
+}
+
+impl Drop for Memory {
+    fn drop(self) {
+        let Memory {
+            sessions: _sessions,
+            bare: _bare,
+            spaces: _spaces,
+            cells: _cells,
+            outbox: _outbox,
+        } = self;
+    }
 }
 
 impl Memory {

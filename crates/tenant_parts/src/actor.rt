@@ -12,13 +12,22 @@ use std::alloc::{AllocError, Global};
 use std::collections::VecDeque;
 
 /// What waits for an actor, and what it is at.
-#[derive(Drop)]
 pub struct ActorState {
     /// The requests that wait, oldest first.
     pub waiting: VecDeque<Waiting>,
     pub hand: Option<Hand>,
     /// Whether its session was closed while a request of it was in hand.
     pub is_closed: bool,
+}
+
+impl Drop for ActorState {
+    fn drop(self) {
+        let ActorState {
+            waiting: _waiting,
+            hand: _hand,
+            is_closed: _is_closed,
+        } = self;
+    }
 }
 
 impl ActorState {

@@ -16,7 +16,6 @@ use std::collections::{BTreeMap, BTreeSet};
 
 /// The actors of a tenant: that of agents first, that of the requests without a session, and then
 /// those of the sessions in the order in which they were made.
-#[derive(Drop)]
 pub struct Actors {
     alloc: Global,
     pub(crate) live: BTreeMap<Actor, ActorState>,
@@ -25,6 +24,16 @@ pub struct Actors {
     pub(crate) busy: BTreeSet<Actor>,
     ghost listed: { are_listed busy (map actor_entry_view live.entries) ≡ true },
     ghost agents: { lists_agents busy ≡ true },
+}
+
+impl Drop for Actors {
+    fn drop(self) {
+        let Actors {
+            alloc: _alloc,
+            live: _live,
+            busy: _busy,
+        } = self;
+    }
 }
 
 // Each takes about the logarithm of the number of actors, but those that say otherwise.

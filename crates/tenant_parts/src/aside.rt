@@ -12,7 +12,6 @@ use repl_reader::{ProgramForms, read_all};
 use std::alloc::{AllocError, Global};
 
 /// What a step leaves to nobody.
-#[derive(Drop)]
 pub enum Left {
     Nothing,
     /// A request that waited.
@@ -25,16 +24,37 @@ pub enum Left {
     Actor(ActorState),
 }
 
+impl Drop for Left {
+    fn drop(self) {
+        match self {
+            Left::Nothing => {},
+            Left::Request(_it) => {},
+            Left::Form(_it) => {},
+            Left::Hand(_it) => {},
+            Left::Actor(_it) => {}
+        }
+    }
+}
+
 /// What was done for a step beforehand, and what the step leaves to nobody. So whoever makes steps
 /// under a lock can read and print before it, and free memory behind it. What a step is answered
 /// does not depend on it.
-#[derive(Drop)]
 pub struct Aside {
     /// The text of the request that begins, if it was read.
     pub read: Option<ReadText>,
     /// The value of the form that ends as it is printed, if it was printed.
     pub printed: Option<String>,
     pub left: Left,
+}
+
+impl Drop for Aside {
+    fn drop(self) {
+        let Aside {
+            read: _read,
+            printed: _printed,
+            left: _left,
+        } = self;
+    }
 }
 
 impl Aside {

@@ -9,9 +9,14 @@ use std::alloc::{AllocError, Global};
 use std::collections::VecDeque;
 
 /// The replies that wait, oldest first, each as its bytes.
-#[derive(Drop)]
 pub struct Outbox {
     replies: VecDeque<Vec<u8>>,
+}
+
+impl Drop for Outbox {
+    fn drop(self) {
+        let Outbox { replies: _replies } = self;
+    }
 }
 
 impl Outbox {

@@ -9,10 +9,18 @@ use std::alloc::{AllocError, Global};
 use std::marker::Model;
 
 /// A text that was read, with its forms. Contracts see the text.
-#[derive(Drop)]
 pub struct ReadText {
     text: String,
     forms: ProgramForms,
+}
+
+impl Drop for ReadText {
+    fn drop(self) {
+        let ReadText {
+            text: _text,
+            forms: _forms,
+        } = self;
+    }
 }
 
 impl Model for ReadText {
@@ -47,7 +55,8 @@ impl ReadText {
     fn into_forms(self) -> ProgramForms
         ensures { IsReading self (items_view result.forms.items) (fault_option result.fault) }
     {
-        self.forms
+        let ReadText { text: _text, forms } = self;
+        forms
     }
 }
 

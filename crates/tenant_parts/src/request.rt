@@ -16,10 +16,18 @@ pub enum ProgramText {
 }
 
 /// A request that waits.
-#[derive(Drop)]
 pub struct Waiting {
     pub origin: Arc<Origin>,
     pub text: ProgramText,
+}
+
+impl Drop for Waiting {
+    fn drop(self) {
+        let Waiting {
+            origin: _origin,
+            text: _text,
+        } = self;
+    }
 }
 
 /// How the forms of a request are answered.
@@ -36,14 +44,21 @@ pub enum Manner {
 }
 
 /// A form that runs: its job, and what it asked and was answered.
-#[derive(Drop)]
 pub struct Run {
     pub job: Job,
     pub trace: Trace,
 }
 
+impl Drop for Run {
+    fn drop(self) {
+        let Run {
+            job: _job,
+            trace: _trace,
+        } = self;
+    }
+}
+
 /// A request that was begun and is not done, or an action.
-#[derive(Drop)]
 pub struct Hand {
     pub origin: Arc<Origin>,
     pub manner: Manner,
@@ -54,4 +69,17 @@ pub struct Hand {
     /// The forms behind it, and the fault of the text behind them all.
     pub forms: VecDeque<Value>,
     pub fault: Option<Fault>,
+}
+
+impl Drop for Hand {
+    fn drop(self) {
+        let Hand {
+            origin: _origin,
+            manner: _manner,
+            namespace: _namespace,
+            running: _running,
+            forms: _forms,
+            fault: _fault,
+        } = self;
+    }
 }

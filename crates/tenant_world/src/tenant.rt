@@ -12,7 +12,6 @@ use tenant_parts::{Actors, Attempts};
 
 /// One tenant. Each of its steps is a deed of the rules: it is accepted or refused as they say, and
 /// leaves the tenant as they say. A step that is refused changes nothing, want of memory included.
-#[derive(Drop)]
 pub struct Tenant {
     pub(crate) alloc: Global,
     pub(crate) retries: u32,
@@ -26,4 +25,18 @@ pub struct Tenant {
     ghost taken: { length (ready_of decoder) ≡ 0 },
     // No actor is of a session that is yet to be made.
     ghost seated: { are_below (suc (suc (opened_by memory))) (actors_view actors) ≡ true },
+}
+
+impl Drop for Tenant {
+    fn drop(self) {
+        let Tenant {
+            alloc: _alloc,
+            retries: _retries,
+            steps: _steps,
+            decoder: _decoder,
+            actors: _actors,
+            memory: _memory,
+            attempts: _attempts,
+        } = self;
+    }
 }

@@ -32,10 +32,18 @@ use walker_state::{Control, EndOrCommit, Place, Setting, State, Wanted, leave};
 
 /// An evaluation that waits for the answer to its last ask. Whoever hands it on moves a few words:
 /// its state stays where it was put at the first ask.
-#[derive(Drop)]
 pub struct WaitingEvaluation {
     pub(crate) state: Box<State>,
     pub(crate) wanted: Wanted,
+}
+
+impl Drop for WaitingEvaluation {
+    fn drop(self) {
+        let WaitingEvaluation {
+            state: _state,
+            wanted: _wanted,
+        } = self;
+    }
 }
 
 /// How far an evaluation came: to its next ask, or to its end.
