@@ -9,6 +9,9 @@
     tools/load.py --idle COMMAND     the same for one that answers 3 to whatever it is asked: it
                                      shows what sockets and the load allow, and is asked for no ref
 
+    tools/load.py --heavy            no table, but how 15 connections fare alone and beside one with
+                                     evals that take long (heavy.py), for the built program
+
 These may stand more than once; the servers are measured one after another.
 `--evals N` makes N evals in a row of the table, 10,000 unless given. load.c, which gcc compiles
 here, makes the load. It compares each reply with the bytes that it has to have, and ends at the
@@ -20,6 +23,7 @@ takes 40 ms for each eval there. In the others the client acknowledges at once, 
 shows what evaluating costs. Before the table as many evals are made as one of its rows has. The
 memory is that of the process which the command starts, with its last connections still open."""
 
+import contextlib
 import shlex
 import subprocess
 import sys
@@ -27,6 +31,7 @@ import tempfile
 import typing
 
 import workspace
+from heavy import KINDS
 from sockets import Server
 
 PROGRAM = f"{workspace.TOP}/crates/nrepl_server/out/nrepl_server"
@@ -58,6 +63,9 @@ class Row(typing.NamedTuple):
 
 def main(words):
     servers, evals = [], 10_000
+    measures = measure
+    if words[:1] == ["--heavy"]:
+        measures, words = measure_beside_heavy, words[1:]
     while len(words) > 1 and words[0] in ("--evals", *OPTIONS):
         if words[0] == "--evals":
             evals = max(int(words[1]) // SIXTEEN, LATE) * SIXTEEN
@@ -75,7 +83,7 @@ def main(words):
                 file.write(TEXT)
             built = f"{BUILT} --shared {shlex.quote(file.name)}"
             for command, kind in servers or [(built, None)]:
-                measure(program, command, rows_of(kind, evals))
+                measures(program, command, rows_of(kind, evals))
         except (OSError, EOFError, ValueError) as error:
             print(f"load: {error}", file=sys.stderr)
             return 1
@@ -125,6 +133,38 @@ def measure(program, command, its_rows):
                 print(f"| {row.name} | {speed} | {told} | {overtaken} |", flush=True)
         made = sum(it.evals for it in its_rows)
         print(f"\nResident memory: {begin} MB before, {memory} MB after {made:,} evals.")
+
+
+def measure_beside_heavy(program, command, its_rows):
+    """Prints how evals fare on all connections but one, alone and beside one of each kind."""
+    row = Row("", its_rows[0].evals, connections=SIXTEEN - 1)
+    row = row._replace(evals=row.evals // row.connections * row.connections)
+    print(f"\n{command}\n\n| Beside | A second | Median, ms | 99 in 100, ms | Slowest, ms |")
+    print("|---|---|---|---|---|")
+    with Server(shlex.split(command)) as server:
+        run(program, server, row)
+        for kind in ("nothing", *KINDS, "all of these by turns", "nothing"):
+            with contextlib.ExitStack() as stack:
+                if kind != "nothing":
+                    words = [kind] if kind in KINDS else []
+                    stack.enter_context(heavy(server, words))
+                seconds, _, times, _ = run(program, server, row)
+            told = [times[len(times) // 2], times[len(times) * 99 // 100], times[-1]]
+            told = " | ".join(f"{it / 1000:.3f}" for it in told)
+            print(f"| {kind} | {len(times) / seconds:,.0f} | {told} |", flush=True)
+
+
+@contextlib.contextmanager
+def heavy(server, words):
+    """A client that asks for evals that take long, from when it is ready."""
+    command = [sys.executable, f"{workspace.TOP}/tools/heavy.py", str(server.address[1]), *words]
+    with subprocess.Popen(command, stdout=subprocess.PIPE, text=True) as client:
+        try:
+            if client.stdout.readline() != "ready\n":
+                raise ValueError("the client with long evals does not come to them")
+            yield
+        finally:
+            client.kill()
 
 
 def run(program, server, row):

@@ -109,6 +109,17 @@ use Rattle.version_rings.specs.contracts.node.Ring as ring
 use Rattle.ref_table.specs.contracts.directory.Directory as directory
 use Rattle.repl_core.specs.contracts.tenants.Tenants as tenants
 use Rattle.journal_book.specs.contracts.book.Book.TheInside as book_inside
+use Rattle.logbook.proofs.tokens.Seen.TheSendSync as beginning
+use Rattle.logbook.proofs.word.Word.TheSendSync as word
+use Rattle.history.specs.declared.known.Naming as naming
+use Rattle.history.specs.contracts.known.Law as law
+use Rattle.history.specs.contracts.known.LawRuleU64.TheImpl as rule
+use Rattle.history.specs.contracts.known.Length as length
+use Rattle.history.specs.contracts.known.Known as known_entries
+use Rattle.history.specs.contracts.known.Known.TheInside as known_inside
+use Rattle.history.specs.contracts.lasts.Lasts as lasts
+use Rattle.knowing_book.specs.contracts.book.KnowingBook as knowing
+use Rattle.knowing_book.specs.contracts.book.KnowingBook.TheInside as knowing_inside
 use Rattle.std.specs.declared.sync.ledger.Ledger as ledger
 use Rattle.std.specs.contracts.sync.ledger.Book as counts
 use Rattle.std.specs.contracts.sync.ledger.Share as share
@@ -746,7 +757,27 @@ post_send =
       ),
     )
 
-module _ (L : RattleType) (g : ledger.Ghosts L.Denot) (s : IsSend L) where
+lasts-send : IsSend lasts.the_row
+lasts-send = search (sendable, crosses, maps.crosses) depth 40 fits 20000
+
+module _ (N : RattleType) (n : naming.Ghosts N.Denot) (t : IsSend N) where
+  length-send : IsSend (length.the_row entry.the_row N n)
+  length-send = declared_send (length.the_type entry.the_row N n) (
+    word.the_send entry.the_row denote.Builtin.u64 law.the_row (rule.ghosts entry.the_row),
+    (search (sendable, crosses) depth 20, tt),
+  )
+
+  known-inside-send : IsSend (known_inside.the_row entry.the_row N n)
+  known-inside-send = declared_send (known_inside.the_type entry.the_row N n) (
+    beginning.the_send entry.the_row denote.Builtin.u64 law.the_row (rule.ghosts entry.the_row),
+    (search (sendable, crosses) depth 20, tt),
+  )
+
+  known-send : IsSend (known_entries.the_row entry.the_row N n)
+  known-send = search (view_send, known-inside-send)
+
+module _ (L : RattleType) (g : ledger.Ghosts L.Denot) (s : IsSend L)
+    (N : RattleType) (n : naming.Ghosts N.Denot) (t : IsSend N) where
   counts-send : IsSend (counts.the_row L g)
   counts-send = sent.book_send L g
 
@@ -774,22 +805,37 @@ module _ (L : RattleType) (g : ledger.Ghosts L.Denot) (s : IsSend L) where
   pub book_send : IsSend (book.the_row L g)
   book_send = search (view_send, inside-send)
 
-  lock-send : IsSend (mutex.the_row (book.the_row L g))
-  lock-send = locks.Mutex-send _ book_send
+  knowing-inside-send : IsSend (knowing_inside.the_row L N n g)
+  knowing-inside-send = declared_send (knowing_inside.the_type L N n g) (
+    book_send,
+    (
+      length-send N n t,
+      (
+        option-send _ (known-send N n t),
+        (lasts-send, tt),
+      ),
+    ),
+  )
 
-  lock-sync : IsSync (mutex.the_row (book.the_row L g))
-  lock-sync = locks.Mutex-sync _ book_send
+  pub knowing_send : IsSend (knowing.the_row L N n g)
+  knowing_send = search (view_send, knowing-inside-send)
 
-  shared-send : IsSend (arc.the_row (mutex.the_row (book.the_row L g)) Heap.the_row ghosts)
+  lock-send : IsSend (mutex.the_row (knowing.the_row L N n g))
+  lock-send = locks.Mutex-send _ knowing_send
+
+  lock-sync : IsSync (mutex.the_row (knowing.the_row L N n g))
+  lock-sync = locks.Mutex-sync _ knowing_send
+
+  shared-send : IsSend (arc.the_row (mutex.the_row (knowing.the_row L N n g)) Heap.the_row ghosts)
   shared-send = heap.Arc-send _ lock-send lock-sync
 
-  pub crew_send : (G : RattleType) → IsSend G → IsSync G → IsSend (crew.the_row L G g)
-  crew_send G sent seen = declared_send (crew.the_type L G g)
+  pub crew_send : (G : RattleType) → IsSend G → IsSync G → IsSend (crew.the_row L N G g n)
+  crew_send G sent seen = declared_send (crew.the_type L N G g n)
       (heap.send, (shared-send, (heap.Arc-send G sent seen, tt)))
 
   pub connection_sync : (a : denote.Ref.NamedLft) (G : RattleType) → IsSync G
-      → IsSync (connection.the_row a L G g)
-  connection_sync a G seen = declared_sync (connection.the_type a L G g) (
+      → IsSync (connection.the_row a L N G g n)
+  connection_sync a G seen = declared_sync (connection.the_type a L N G g n) (
     heap.sync,
     (
       shr_sync _ _ _ lock-sync,
@@ -811,9 +857,9 @@ module _ (L : RattleType) (g : ledger.Ghosts L.Denot) (s : IsSend L) where
 
   -- a thread of a crew, by what it captures: the handle, the connection and its seat
   pub thread_send : (name : List ℕ) (layout : Ty) (a b c : NamedLft) (R G : RattleType) → IsSync
-      (param 2 R) → IsSync G
-      → IsSend (param 1 (arg layout no (TupleAt name ((shr_ref_field a (param 2 R) tt).row
-      ∷ (shr_ref_field b (connection.the_row c L G g) tt).row ∷ seat.the_row L g ∷ []))))
+      (param 3 R) → IsSync G
+      → IsSend (param 1 (arg layout no (TupleAt name ((shr_ref_field a (param 3 R) tt).row
+      ∷ (shr_ref_field b (connection.the_row c L N G g n) tt).row ∷ seat.the_row L g ∷ []))))
   thread_send name layout a b c R G handle gate =
       param_send 1 _ (arg_send _ no _ (captures-3 name _ _ _
       (shr_send _ _ _ handle) (shr_send _ _ _ (connection_sync c G gate)) seat_send))

@@ -11,7 +11,8 @@ use crate::reading::read_away;
 use crate::working::{serve_actions, serve_requests};
 use crate::writing::write_what_waits;
 use connection_queue::{Takings, Ticket, take};
-use journal_book::{Book, Places, Seat};
+use journal_book::{Places, Seat};
+use knowing_book::{KnowingBook, Naming};
 use std::alloc::Global;
 use std::net::TcpStream;
 use std::sync::ledger::Ledger;
@@ -25,9 +26,9 @@ const SEATS: usize = 5;
 /// Serves connections: for each one three threads that read and evaluate by turns, a runner of
 /// actions and a writer.
 #[derive(Drop)]
-pub struct Crew<L: Ledger, G: Drop> {
+pub struct Crew<L: Ledger, N: Naming, G: Drop> {
     pub(crate) alloc: Global,
-    pub(crate) book: Arc<Mutex<Book<L>>>,
+    pub(crate) book: Arc<Mutex<KnowingBook<L, N>>>,
     pub(crate) gate: Arc<G>,
 }
 
@@ -44,7 +45,7 @@ pub struct Shift<L: Ledger> {
     pub seats: Vec<Seat<L>>,
 }
 
-impl<L: Ledger + Send + Sync, G: Gate + Drop + Send + Sync> Crew<L, G> {
+impl<L: Ledger + Send + Sync, N: Naming + Send + Sync, G: Gate + Drop + Send + Sync> Crew<L, N, G> {
     /// Serves connections from the queue until it ends.
     pub fn serve_all<R: Threads + Wait + Sync>(&self, rt: &R, post: Post) -> Shift<L>
         requires { IsSeatAt (receives_on post.from) post.ticket × (view post.ticket ≡ hand false 0) }

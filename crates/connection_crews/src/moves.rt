@@ -4,18 +4,18 @@ ghost use Rattle.std.specs.Prelude.{◌≡◌};
 use crate::desk::{Call, Desk, Duty, Event, Seen};
 use crate::gate::Gate;
 use bytes::Bytes;
-use journal_book::{Book, Receipt, Seat};
-use repl_asks::{Answer, Ask, Job};
+use journal_book::{Beside, Seat};
+use knowing_book::{Begun, Finish, KnowingBook, Naming, Question, Reply, Unasked, Unended};
+use repl_asks::Ask;
 use repl_core::{Refused, Step, StepAnswer};
-use repl_walker::Ending;
 use server_rules::{Actor, Refusal, Wire};
 use std::alloc::Global;
-use std::boxed::Box;
 use std::hint::spin_loop;
 use std::net::{Shutdown, TcpStream};
 use std::sync::ledger::Ledger;
 use std::sync::{Mutex, MutexGuard, Wait};
 use std::thread;
+use tenant_parts::ReadText;
 
 // How often the book's lock is tried before a thread sleeps for it, how many pauses lie between two
 // tries, and after how many tries other threads may run.
@@ -25,14 +25,18 @@ const PAUSES: u32 = 10;
 
 const TRIES_IN_A_ROW: u32 = 10;
 
+// The length of a text, in bytes, that may be read while others wait for the book. A longer one is read
+// before its request begins.
+const SHORT_TEXT: usize = 2_048;
+
 // The greatest length of a piece that is small, in bytes.
 const SMALL_PIECE: usize = 1_024;
 
 /// A connection, as each thread of its crew sees it.
 #[derive(Drop)]
-pub(crate) struct Connection<'a, L: Ledger, G> {
+pub(crate) struct Connection<'a, L: Ledger, N: Naming, G> {
     pub(crate) alloc: Global,
-    pub(crate) book: &'a Mutex<Book<L>>,
+    pub(crate) book: &'a Mutex<KnowingBook<L, N>>,
     pub(crate) gate: &'a G,
     pub(crate) desk: &'a Desk,
     pub(crate) stream: &'a TcpStream,
@@ -40,13 +44,13 @@ pub(crate) struct Connection<'a, L: Ledger, G> {
 
 /// What came of a piece of the stream.
 #[derive(Drop)]
-pub(crate) enum Heard {
+pub(crate) enum Heard<N: Naming> {
     // whether the stream goes on, replies to write, and what who read the piece is to do, if it is
     // one that may be done at once
     Taken {
         goes_on: bool,
         replies: Vec<Vec<u8>>,
-        found: Option<Found>,
+        found: Option<Found<N>>,
     },
     // too many replies wait; the piece, and how often replies were taken out
     Held(Bytes, u64),
@@ -55,8 +59,10 @@ pub(crate) enum Heard {
 
 /// What a worker found to do.
 #[derive(Drop)]
-pub(crate) enum Found {
-    Form(Actor, Job),
+pub(crate) enum Found<N: Naming> {
+    Form(Begun<N>),
+    // the text of an actor's request, which is to be read first
+    Text(Actor, String),
     // a request that is done at once, with its replies
     Answered(Vec<Vec<u8>>),
     // nothing; how often a request came, or something was sent to agents
@@ -69,25 +75,25 @@ pub(crate) enum Found {
 
 /// What an evaluation was told.
 #[derive(Drop)]
-pub(crate) enum Told {
-    Answer(Answer),
+pub(crate) enum Told<N: Naming> {
+    Reply(Reply<N>),
     // an await that is not met when so much had come
-    Waiting(Seen),
+    Waiting(Question<N>, Seen),
     Interrupted(Vec<Vec<u8>>),
     Refused,
 }
 
 /// What came of an ending.
 #[derive(Drop)]
-pub(crate) enum Ended {
+pub(crate) enum Ended<N: Naming> {
     // its replies; and behind a request, where no actor has anything to begin now but more may
     // come, how often one came
     Taken(Vec<Vec<u8>>, Option<u64>),
-    Held(Box<Ending>, u64),
+    Held(Finish<N>, u64),
     Refused,
 }
 
-impl<'a, L: Ledger, G: Gate> Connection<'a, L, G> {
+impl<'a, L: Ledger, N: Naming, G: Gate> Connection<'a, L, N, G> {
     /// Ends a connection that cannot go on: nobody waits for its peer any more.
     pub(crate) fn cut<R: Wait>(&self, rt: &R) {
         self.desk.end(rt);
@@ -95,20 +101,22 @@ impl<'a, L: Ledger, G: Gate> Connection<'a, L, G> {
     }
 
     /// The tenant hears a piece. What a single small message asks for is begun at once.
-    pub(crate) fn hear<R: Wait>(&self, rt: &R, seat: &mut Seat<L>, piece: Bytes) -> Heard
+    pub(crate) fn hear<R: Wait>(&self, rt: &R, seat: &mut Seat<L>, piece: Bytes) -> Heard<N>
         ensures { seat.new.tenant ≡ seat.old.tenant }
     {
         let tenant = seat.tenant();
+        let mut beside = Beside::nothing();
         let mut book = locked(rt, self.book);
-        let is_small = piece.len() <= SMALL_PIECE && matches!(book.wire(tenant), Some(Wire::Whole));
+        let is_small = piece.len() <= SMALL_PIECE
+            && matches!(book.book().wire(tenant), Some(Wire::Whole));
         match book.act(seat, Step::Hear(tenant, piece)) {
             Ok(receipt) => {
                 let messages = messages_in(&receipt.answer);
-                let goes_on = !matches!(book.wire(tenant), Some(Wire::Broken(_)));
+                let goes_on = !matches!(book.book().wire(tenant), Some(Wire::Broken(_)));
                 let replies = self.replies(rt, &mut *book, seat);
                 let call = self.desk.note_messages(rt, messages, is_small && goes_on);
                 let found = match call {
-                    Call::Reader => Some(self.first_found(rt, &mut *book, seat)),
+                    Call::Reader => Some(self.first_found(rt, &mut *book, seat, &mut beside, None)),
                     Call::Others | Call::Nobody => None,
                 };
                 drop(book);
@@ -131,23 +139,57 @@ impl<'a, L: Ledger, G: Gate> Connection<'a, L, G> {
 
     /// Begins what the first actor that is ready has to do, unless as many forms are evaluated as
     /// may be at a time: then who ends one begins the next.
-    pub(crate) fn begin<R: Wait>(&self, rt: &R, seat: &mut Seat<L>) -> Found
+    pub(crate) fn begin<R: Wait>(&self, rt: &R, seat: &mut Seat<L>) -> Found<N>
         ensures { seat.new.tenant ≡ seat.old.tenant }
     {
+        let mut beside = Beside::nothing();
         let mut book = locked(rt, self.book);
-        self.first_found(rt, &mut *book, seat)
+        self.first_found(rt, &mut *book, seat, &mut beside, None)
     }
 
-    fn first_found<R: Wait>(&self, rt: &R, book: &mut Book<L>, seat: &mut Seat<L>) -> Found
+    /// The same, where this text of an actor's request was read before, of so many bytes.
+    pub(crate) fn begin_read<R: Wait>(
+        &self,
+        rt: &R,
+        seat: &mut Seat<L>,
+        read: ReadText,
+        whose: (Actor, usize),
+    ) -> Found<N>
         ensures { seat.new.tenant ≡ seat.old.tenant }
     {
+        let mut beside = Beside::nothing();
+        beside.aside.read = Some(read);
+        let mut book = locked(rt, self.book);
+        self.first_found(rt, &mut *book, seat, &mut beside, Some(whose))
+    }
+
+    // A long text is to be read first, unless it is the one that was.
+    fn first_found<R: Wait>(
+        &self,
+        rt: &R,
+        book: &mut KnowingBook<L, N>,
+        seat: &mut Seat<L>,
+        beside: &mut Beside,
+        whose: Option<(Actor, usize)>,
+    ) -> Found<N>
+        ensures { seat.new.tenant ≡ seat.old.tenant }
+    {
+        let tenant = seat.tenant();
         if self.desk.is_busy(rt) {
             return self.nothing(rt);
         }
-        let Some(actor) = book.ready(seat.tenant()) else {
+        let Some(actor) = book.book().ready(tenant) else {
             return self.nothing(rt);
         };
-        match self.start(rt, book, seat, actor) {
+        if let Some(text) = book.book().next_text(tenant, actor) {
+            if text.len() > SHORT_TEXT && !is_same(whose, actor, text.len()) {
+                return match String::from_str(self.alloc, text) {
+                    Ok(text) => Found::Text(actor, text),
+                    Err(_) => Found::Refused,
+                };
+            }
+        }
+        match self.start(rt, book, seat, actor, beside) {
             Ok(found) => found,
             Err(_) => Found::Refused,
         }
@@ -155,7 +197,7 @@ impl<'a, L: Ledger, G: Gate> Connection<'a, L, G> {
 
     // Nothing is to be begun by this thread now; and never more where the peer sends no more, since
     // who evaluates looks again.
-    fn nothing<R: Wait>(&self, rt: &R) -> Found {
+    fn nothing<R: Wait>(&self, rt: &R) -> Found<N> {
         match self.desk.is_reading(rt) {
             true => Found::Nothing(self.desk.seen(rt, Event::Request)),
             false => Found::Done,
@@ -163,16 +205,17 @@ impl<'a, L: Ledger, G: Gate> Connection<'a, L, G> {
     }
 
     /// Begins the next action, if one waits.
-    pub(crate) fn begin_action<R: Wait>(&self, rt: &R, seat: &mut Seat<L>) -> Found
+    pub(crate) fn begin_action<R: Wait>(&self, rt: &R, seat: &mut Seat<L>) -> Found<N>
         ensures { seat.new.tenant ≡ seat.old.tenant }
     {
         let tenant = seat.tenant();
+        let mut beside = Beside::nothing();
         let mut book = locked(rt, self.book);
-        match self.start(rt, &mut *book, seat, Actor::Agents) {
+        match self.start(rt, &mut *book, seat, Actor::Agents, &mut beside) {
             Ok(found) => found,
             Err(Refusal::Idle) => {
                 let seen = self.desk.rest_agents(rt);
-                if book.ready(tenant).is_some() || self.desk.may_send(rt) {
+                if book.book().ready(tenant).is_some() || self.desk.may_send(rt) {
                     Found::Nothing(seen)
                 } else {
                     Found::Done
@@ -186,100 +229,79 @@ impl<'a, L: Ledger, G: Gate> Connection<'a, L, G> {
     fn start<R: Wait>(
         &self,
         rt: &R,
-        book: &mut Book<L>,
+        book: &mut KnowingBook<L, N>,
         seat: &mut Seat<L>,
         actor: Actor,
-    ) -> Result<Found, Refusal>
+        beside: &mut Beside,
+    ) -> Result<Found<N>, Refusal>
         ensures { seat.new.tenant ≡ seat.old.tenant }
     {
-        let tenant = seat.tenant();
-        match book.act(seat, Step::Start(tenant, actor)) {
-            Ok(
-                Receipt {
-                    place: _,
-                    answer: StepAnswer::Begun(job),
-                },
-            ) => {
+        match book.start(seat, actor, beside) {
+            Ok(Some(begun)) => {
                 self.desk.begin_evaluation(rt, duty_of(actor));
-                Ok(Found::Form(actor, job))
+                Ok(Found::Form(begun))
             }
-            Ok(_) => Ok(Found::Answered(self.replies(rt, book, seat))),
-            Err(
-                Refused {
-                    why: Refusal::Held,
-                    step: _,
-                },
-            ) => Ok(Found::Held(self.desk.seen(rt, Event::Room))),
-            Err(Refused { why, step: _ }) => Err(why),
+            Ok(None) => Ok(Found::Answered(self.replies(rt, book, seat))),
+            Err(Refusal::Held) => Ok(Found::Held(self.desk.seen(rt, Event::Room))),
+            Err(why) => Err(why),
         }
     }
 
-    /// The form of an actor asks this.
-    pub(crate) fn ask<R: Wait>(
-        &self,
-        rt: &R,
-        seat: &mut Seat<L>,
-        actor: Actor,
-        ask: Box<Ask>,
-    ) -> Told
+    /// A form asks.
+    pub(crate) fn ask<R: Wait>(&self, rt: &R, seat: &mut Seat<L>, question: Question<N>) -> Told<N>
         ensures { seat.new.tenant ≡ seat.old.tenant }
     {
-        let tenant = seat.tenant();
-        let wakes = may_wake_agents(&ask);
+        let wakes = may_wake_agents(question.ask());
+        let mut beside = Beside::nothing();
         let mut book = locked(rt, self.book);
-        match book.act(seat, Step::Asked(tenant, actor, ask)) {
-            Ok(
-                Receipt {
-                    place: _,
-                    answer: StepAnswer::Answer(answer),
-                },
-            ) => {
+        match book.ask(seat, question, &mut beside) {
+            Ok(Some(reply)) => {
                 if wakes {
                     self.desk.wake_agents(rt);
                 }
-                Told::Answer(answer)
+                Told::Reply(reply)
             }
-            Ok(_) => Told::Interrupted(self.replies(rt, &mut *book, seat)),
+            Ok(None) => Told::Interrupted(self.replies(rt, &mut *book, seat)),
             Err(
-                Refused {
+                Unasked {
                     why: Refusal::Waiting,
-                    step: _,
+                    question,
                 },
-            ) => Told::Waiting(self.desk.turns_seen(rt)),
+            ) => Told::Waiting(question, self.desk.turns_seen(rt)),
             Err(_) => Told::Refused,
         }
     }
 
-    /// The form of an actor has ended so.
+    /// A form has ended.
     pub(crate) fn end_form<R: Wait>(
         &self,
         rt: &R,
         seat: &mut Seat<L>,
-        actor: Actor,
-        ending: Box<Ending>,
-    ) -> Ended
+        finish: Finish<N>,
+    ) -> Ended<N>
         ensures { seat.new.tenant ≡ seat.old.tenant }
     {
-        let tenant = seat.tenant();
+        let actor = finish.actor();
+        let mut beside = Beside::nothing();
         let mut book = locked(rt, self.book);
-        match book.act(seat, Step::Ended(tenant, actor, ending)) {
+        match book.end(seat, finish, &mut beside) {
             Ok(_) => {
                 let replies = self.replies(rt, &mut *book, seat);
                 if actor == Actor::Agents {
                     self.desk.note(rt, Event::Turn);
                     return Ended::Taken(replies, None);
                 }
-                if book.ready(tenant).is_some() || !self.desk.is_reading(rt) {
+                if book.book().ready(seat.tenant()).is_some() || !self.desk.is_reading(rt) {
                     return Ended::Taken(replies, None);
                 }
                 Ended::Taken(replies, Some(self.desk.seen(rt, Event::Request)))
             }
             Err(
-                Refused {
+                Unended {
                     why: Refusal::Held,
-                    step: Step::Ended(_, _, ending),
+                    finish,
                 },
-            ) => { Ended::Held(ending, self.desk.seen(rt, Event::Room)) }
+            ) => Ended::Held(finish, self.desk.seen(rt, Event::Room)),
             Err(_) => Ended::Refused,
         }
     }
@@ -293,12 +315,17 @@ impl<'a, L: Ledger, G: Gate> Connection<'a, L, G> {
         // before the replies: nobody has the pen then, so that none is left
         let is_at_rest = self.desk.is_at_rest(rt);
         let replies = self.replies(rt, &mut *book, seat);
-        let is_done = is_at_rest && replies.is_empty() && book.ready(tenant).is_none();
+        let is_done = is_at_rest && replies.is_empty() && book.book().ready(tenant).is_none();
         (replies, is_done)
     }
 
     // Takes the replies out that wait, and the pen with them, if nobody has it and there are any.
-    fn replies<R: Wait>(&self, rt: &R, book: &mut Book<L>, seat: &mut Seat<L>) -> Vec<Vec<u8>>
+    fn replies<R: Wait>(
+        &self,
+        rt: &R,
+        book: &mut KnowingBook<L, N>,
+        seat: &mut Seat<L>,
+    ) -> Vec<Vec<u8>>
         ensures { seat.new.tenant ≡ seat.old.tenant }
     {
         if !self.desk.take_pen(rt) {
@@ -318,10 +345,10 @@ impl<'a, L: Ledger, G: Gate> Connection<'a, L, G> {
 }
 
 /// The book, as soon as nobody else has it.
-pub(crate) fn locked<'b, L: Ledger, R: Wait>(
+pub(crate) fn locked<'b, L: Ledger, N: Naming, R: Wait>(
     rt: &R,
-    book: &'b Mutex<Book<L>>,
-) -> MutexGuard<'b, Book<L>> {
+    book: &'b Mutex<KnowingBook<L, N>>,
+) -> MutexGuard<'b, KnowingBook<L, N>> {
     for tried in 1..=TRIES {
         if let Some(guard) = book.try_lock() {
             return guard;
@@ -338,13 +365,22 @@ pub(crate) fn locked<'b, L: Ledger, R: Wait>(
 }
 
 /// The tenant goes.
-pub(crate) fn bid_farewell<L: Ledger, R: Wait>(rt: &R, book: &Mutex<Book<L>>, seat: &mut Seat<L>)
+pub(crate) fn bid_farewell<L: Ledger, N: Naming, R: Wait>(
+    rt: &R,
+    book: &Mutex<KnowingBook<L, N>>,
+    seat: &mut Seat<L>,
+)
     ensures { seat.new.tenant ≡ seat.old.tenant }
 {
-    let tenant = seat.tenant();
-    match locked(rt, book).act(seat, Step::Bye(tenant)) {
-        Ok(_gone) => {}
-        Err(_refused) => {}
+    let mut beside = Beside::nothing();
+    let _is_gone = locked(rt, book).leave(seat, &mut beside).is_ok();
+}
+
+// Whether a text was read of this actor, and of so many bytes.
+fn is_same(whose: Option<(Actor, usize)>, actor: Actor, length: usize) -> bool {
+    match whose {
+        Some((other, bytes)) => other == actor && bytes == length,
+        None => false,
     }
 }
 
@@ -366,9 +402,9 @@ fn may_wake_agents(ask: &Ask) -> bool {
 }
 
 // All replies that wait; and whether there was memory to take them all out.
-fn drain_all<L: Ledger>(
+fn drain_all<L: Ledger, N: Naming>(
     alloc: Global,
-    book: &mut Book<L>,
+    book: &mut KnowingBook<L, N>,
     seat: &mut Seat<L>,
 ) -> (Vec<Vec<u8>>, bool)
     ensures { seat.new.tenant ≡ seat.old.tenant }
@@ -389,7 +425,7 @@ fn drain_all<L: Ledger>(
 }
 
 // The oldest reply that waits.
-fn drain<L: Ledger>(book: &mut Book<L>, seat: &mut Seat<L>) -> Option<Vec<u8>>
+fn drain<L: Ledger, N: Naming>(book: &mut KnowingBook<L, N>, seat: &mut Seat<L>) -> Option<Vec<u8>>
     ensures { seat.new.tenant ≡ seat.old.tenant }
 {
     let tenant = seat.tenant();

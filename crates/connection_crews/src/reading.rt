@@ -4,6 +4,7 @@ use crate::gate::Gate;
 use crate::moves::{Connection, Found, Heard};
 use bytes::Bytes;
 use journal_book::Seat;
+use knowing_book::Naming;
 use std::io;
 use std::io::Read;
 use std::net::{Shutdown, TcpStream};
@@ -11,8 +12,8 @@ use std::sync::Wait;
 use std::sync::ledger::Ledger;
 use std::time::Duration;
 
-// The greatest length of a piece.
-const PIECE: usize = 16_384;
+// The greatest length of a piece. All its messages are taken within one act.
+const PIECE: usize = 4_096;
 
 // How many milliseconds a read waits for more of a stream that has a fault, and how many such reads
 // are made.
@@ -20,13 +21,16 @@ const PATIENCE: u64 = 100;
 
 const MOST_READS: usize = 256;
 
+// How many bytes such a read takes.
+const READ_AWAY: usize = 16_384;
+
 /// What came of a read.
 #[derive(Drop)]
-pub(crate) enum Came {
+pub(crate) enum Came<N: Naming> {
     /// Messages, if any, which are left to others.
     Nothing,
     /// A message, and what who read it is to do.
-    Message(Found),
+    Message(Found<N>),
     /// Nothing more is to be read.
     End,
 }
@@ -38,12 +42,12 @@ pub(crate) type Piece = [u8; PIECE];
 pub(crate) const EMPTY_PIECE: Piece = [0u8; PIECE];
 
 /// Reads what the peer sends next, and has it heard.
-pub(crate) fn read_piece<L: Ledger, R: Wait, G: Gate>(
+pub(crate) fn read_piece<L: Ledger, N: Naming, R: Wait, G: Gate>(
     rt: &R,
-    connection: &Connection<'_, L, G>,
+    connection: &Connection<'_, L, N, G>,
     seat: &mut Seat<L>,
     buffer: &mut Piece,
-) -> Came {
+) -> Came<N> {
     match (&mut &*connection.stream).read(buffer) {
         Ok(0) => Came::End,
         Ok(count) => match Bytes::copy_from_slice(connection.alloc, &buffer[..count]) {
@@ -57,7 +61,10 @@ pub(crate) fn read_piece<L: Ledger, R: Wait, G: Gate>(
     }
 }
 
-fn cut<L: Ledger, R: Wait, G: Gate>(rt: &R, connection: &Connection<'_, L, G>) -> Came {
+fn cut<L: Ledger, N: Naming, R: Wait, G: Gate>(
+    rt: &R,
+    connection: &Connection<'_, L, N, G>,
+) -> Came<N> {
     connection.cut(rt);
     Came::End
 }
@@ -72,7 +79,7 @@ pub(crate) fn read_away(stream: &TcpStream) {
     {
         return;
     }
-    let mut buffer = [0u8; PIECE];
+    let mut buffer = [0u8; READ_AWAY];
     for _ in 0..MOST_READS {
         match (&mut &*stream).read(&mut buffer) {
             Ok(0) | Err(_) => return,
@@ -82,12 +89,12 @@ pub(crate) fn read_away(stream: &TcpStream) {
 }
 
 // Has a piece heard, as soon as there is room for what it may be answered.
-fn hear<L: Ledger, R: Wait, G: Gate>(
+fn hear<L: Ledger, N: Naming, R: Wait, G: Gate>(
     rt: &R,
-    connection: &Connection<'_, L, G>,
+    connection: &Connection<'_, L, N, G>,
     seat: &mut Seat<L>,
     mut piece: Bytes,
-) -> Came {
+) -> Came<N> {
     for _ in rt.forever() {
         match connection.hear(rt, seat, piece) {
             Heard::Taken {
@@ -114,7 +121,7 @@ fn hear<L: Ledger, R: Wait, G: Gate>(
     unreachable!()
 }
 
-fn came_with(goes_on: bool, found: Option<Found>) -> Came {
+fn came_with<N: Naming>(goes_on: bool, found: Option<Found<N>>) -> Came<N> {
     match found {
         Some(found) => Came::Message(found),
         None if goes_on => Came::Nothing,

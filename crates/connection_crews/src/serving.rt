@@ -1,5 +1,5 @@
 // Connections are accepted and handed to crews, and the book is closed.
-ghost use Rattle.std.specs.Prelude.{◌≡◌, ◌<◌, true, false, IfOk};
+ghost use Rattle.std.specs.Prelude.{◌≡◌, ◌<◌, [], true, false, IfOk};
 ghost use Rattle.crossbeam_channel.specs.Claims.{view, IsSeatAt};
 ghost use Rattle.crossbeam_channel.specs.Ends.{sends_on, receives_on};
 ghost use Rattle.connection_queue.specs.Numbers.{hand};
@@ -9,9 +9,11 @@ use crate::crew::{Crew, Post, Shift};
 use crate::errors::ServeError;
 use crate::gate::Gate;
 use connection_queue::{Accepted, Feed, Ticket, another_ticket, queue, send};
-use journal_book::{Book, Report, Seat};
+use journal_book::{Book, Entry, Report, Seat};
+use knowing_book::{KnowingBook, Naming, Opened};
 use repl_core::Config;
 use std::alloc::{AllocError, Global};
+use std::marker::Brand;
 use std::net::{TcpListener, TcpStream};
 use std::sync::ledger::{Blank, Ledger};
 use std::sync::{Arc, Mutex, Wait};
@@ -50,14 +52,40 @@ pub fn serve<
     requires parts { (blank.parts ≡ L.parts) × (blank.parts ≡ 5000001) }
     ensures { IfOk result (λ r. IsReportOf r.0 r.1) }
 {
-    let book = shared(alloc, Mutex::new(Book::<L>::new(blank, alloc, config)?))?;
+    let book = Book::<L>::new(blank, alloc, config)?;
+    let opened = Opened::new();
+    serve_book::<L, Brand, R, G>(rt, alloc, listener, book, opened, options, gate)
+}
+
+// Serves so many connections from a book, under a name for the history of its journal.
+fn serve_book<
+    L: Ledger + Send + Sync + 'static,
+    N: Naming + Send + Sync + 'static,
+    R: Threads + Wait + Copy + Send + Sync + 'static,
+    G: Gate + Drop + Send + Sync + 'static,
+>(
+    rt: R,
+    alloc: Global,
+    listener: &TcpListener,
+    book: Book<L>,
+    opened: Opened<Entry>,
+    options: Options,
+    gate: G,
+) -> Result<(Book<L>, Report), ServeError>
+    requires parts { L.parts ≡ 5000001 }
+    requires empty { book.journal ≡ [] }
+    requires name { opened.seen.book ≡ N.book }
+    ensures { IfOk result (λ r. IsReportOf r.0 r.1) }
+{
+    let book = KnowingBook::<L, N>::new(alloc, book, opened);
+    let book = shared(alloc, Mutex::new(book))?;
     let gate = shared(alloc, gate)?;
     let seats = served(rt, alloc, &book, &gate, listener, options)?;
     // no crew holds it any more
     let Ok(lock) = Arc::try_unwrap(book) else {
         return Err(ServeError::NoMemory);
     };
-    closed(lock.into_inner(), seats)
+    closed(lock.into_inner().into_book(), seats)
 }
 
 // A seat is lost only where there was no memory to keep it.
@@ -81,12 +109,13 @@ fn shared<T: Drop>(alloc: Global, value: T) -> Result<Arc<T>, AllocError> {
 // Has crews serve what is accepted, and gives the seats of all.
 fn served<
     L: Ledger + Send + Sync + 'static,
+    N: Naming + Send + Sync + 'static,
     R: Threads + Wait + Copy + Send + Sync + 'static,
     G: Gate + Drop + Send + Sync + 'static,
 >(
     rt: R,
     alloc: Global,
-    book: &Arc<Mutex<Book<L>>>,
+    book: &Arc<Mutex<KnowingBook<L, N>>>,
     gate: &Arc<G>,
     listener: &TcpListener,
     options: Options,
@@ -123,11 +152,12 @@ fn served<
 // Starts a crew in a thread of its own.
 fn begin<
     L: Ledger + Send + Sync + 'static,
+    N: Naming + Send + Sync + 'static,
     R: Threads + Wait + Copy + Send + Sync + 'static,
     G: Gate + Drop + Send + Sync + 'static,
 >(
     rt: R,
-    crew: Crew<L, G>,
+    crew: Crew<L, N, G>,
     post: Post,
     running: &mut Vec<JoinHandle<Shift<L>>>,
 ) -> Result<(), AllocError>

@@ -2,15 +2,16 @@
 use crate::gate::Gate;
 use crate::moves::Connection;
 use journal_book::Seat;
+use knowing_book::Naming;
 use std::alloc::{AllocError, Global};
 use std::io::Write;
 use std::sync::Wait;
 use std::sync::ledger::Ledger;
 
 /// Writes the replies that came while others wrote, and finds out when all is done.
-pub(crate) fn write_what_waits<L: Ledger, R: Wait, G: Gate>(
+pub(crate) fn write_what_waits<L: Ledger, N: Naming, R: Wait, G: Gate>(
     rt: &R,
-    connection: &Connection<'_, L, G>,
+    connection: &Connection<'_, L, N, G>,
     mut seat: Seat<L>,
 ) -> Seat<L> {
     for _ in rt.forever() {
@@ -27,7 +28,7 @@ pub(crate) fn write_what_waits<L: Ledger, R: Wait, G: Gate>(
     seat
 }
 
-impl<'a, L: Ledger, G: Gate> Connection<'a, L, G> {
+impl<'a, L: Ledger, N: Naming, G: Gate> Connection<'a, L, N, G> {
     /// Writes replies that were taken out with the pen, all at once, and lays the pen down.
     pub(crate) fn write<R: Wait>(&self, rt: &R, replies: Vec<Vec<u8>>) {
         if replies.is_empty() {

@@ -1,12 +1,13 @@
 -- A machine that keeps a journal keeps it with one entry more, and answers as the journal leads.
 use Rattle.std.proofs.Common.{◌≡◌, ◌≢◌, ◌∙◌, List, [], ◌∷◌, ◌++◌, refl, sym, ap, subst}
-use Rattle.std.proofs.Common.{Result, Ok, Err, IfErr, ℕ, None, Some, option_map}
+use Rattle.std.proofs.Common.{Result, Ok, Err, IfErr, ℕ, Option, None, Some, option_map}
 use Rattle.std.specs.Result.{IsErrAnd}
 use Rattle.server_rules.specs.Ground.{Ground}
 use Rattle.server_rules.specs.Plan.{StepAnswer}
 use Rattle.server_rules.specs.Store.{Store}
 use Rattle.server_rules.specs.Tenant.{Quiet}
-use Rattle.server_rules.specs.Machine.World.{World, Step, opened_world, accepted, refused, step}
+use Rattle.server_rules.specs.Machine.World.{TenantData, World, Step, opened_world, accepted}
+use Rattle.server_rules.specs.Machine.World.{refused, step}
 use Rattle.server_rules.specs.declared.refusal.Refusal.{Refusal}
 use Rattle.tenant_world.specs.Standing as world
 use Rattle.tenant_world.specs.declared.tenant.Tenant.{Tenant}
@@ -65,20 +66,32 @@ pub told-so : (g : Ground) (m : Machine) (journal : List EntryData) (k : Keeps g
 told-so g m journal k w leads P is =
     subst P (leads-to-one g (opened_world g) k.world w journal k.leads leads) is
 
+-- what is so of each tenant that its code stands for is so of the one that is open
+pub there-so : (g : Ground) (m : Machine) (w : World) (t : ℕ) (code : Tenant)
+    (P : Option TenantData → Type 0) (s : MachineStands g m w) → tenant_at m.tenants t ≡ Some code
+    → ((kept : TenantData) (st : Store) → world.QuietStands g code kept.quiet st → P (Some kept))
+    → P (open_in t w)
+there-so g m w t code P s there is =
+    let at = kept-at g s.refs t code (tenant_at m.tenants t) (open_in t w) (s.tenants t) there in
+    subst P (sym at.1) (is at.0 (store_in w.around t at.0.mine) (at.2.stands w.around))
+
+pub gone-so : (g : Ground) (m : Machine) (w : World) (t : ℕ) (P : Option TenantData → Type 0)
+    (s : MachineStands g m w) → tenant_at m.tenants t ≡ None → P None → P (open_in t w)
+gone-so g m w t P s gone is =
+    subst P (sym (none-at g s.refs t (tenant_at m.tenants t) (open_in t w) (s.tenants t) gone)) is
+
 -- a tenant that is open shows what its code shows
 pub shown-some : {X : Type 0} (g : Ground) (m : Machine) (w : World) (t : ℕ) (code : Tenant)
     (show : Quiet → X) (shown : X) (s : MachineStands g m w) → tenant_at m.tenants t ≡ Some code
     → ((q : Quiet) (st : Store) → world.QuietStands g code q st → shown ≡ show q)
     → Some shown ≡ option_map (λ it. show it.quiet) (open_in t w)
 shown-some g m w t code show shown s there is =
-    let at = kept-at g s.refs t code (tenant_at m.tenants t) (open_in t w) (s.tenants t) there in
-    ap Some (is at.0.quiet (store_in w.around t at.0.mine) (at.2.stands w.around))
-    ∙ sym (ap (option_map (λ it. show it.quiet)) at.1)
+    there-so g m w t code (λ o. Some shown ≡ option_map (λ it. show it.quiet) o) s there
+    (λ kept st stands. ap Some (is kept.quiet st stands))
 
 -- and one that is not open shows nothing
 pub shown-none : {X : Type 0} (g : Ground) (m : Machine) (w : World) (t : ℕ) (show : Quiet → X)
     (s : MachineStands g m w) → tenant_at m.tenants t ≡ None
     → None ≡ option_map (λ it. show it.quiet) (open_in t w)
 shown-none g m w t show s gone =
-    sym (ap (option_map (λ it. show it.quiet))
-    (none-at g s.refs t (tenant_at m.tenants t) (open_in t w) (s.tenants t) gone))
+    gone-so g m w t (λ o. None ≡ option_map (λ it. show it.quiet) o) s gone refl

@@ -7,3 +7,4 @@ pub mod Forms
 pub mod Tenants
 pub mod Inside
 pub mod Beside
+pub mod Ahead

@@ -9,7 +9,6 @@ use tenant_world::Tenant;
 
 /// What was done for an act beforehand, and what it leaves to nobody. Whoever has a book under a lock
 /// frees that behind it.
-#[derive(Drop)]
 pub struct Beside {
     pub aside: Aside,
     /// The ending of a form that is finished: the journal keeps none of it but how it ended.
@@ -18,6 +17,17 @@ pub struct Beside {
     pub walk: Option<Walk>,
     /// A tenant that is gone.
     pub tenant: Option<Box<Tenant>>,
+}
+
+impl Drop for Beside {
+    fn drop(self) {
+        let Beside {
+            aside: _aside,
+            ending: _ending,
+            walk: _walk,
+            tenant: _tenant,
+        } = self;
+    }
 }
 
 impl Beside {

@@ -1,7 +1,7 @@
 // The book: the journal, the machine that stands for it, and the count of all steps.
 ghost use Rattle.std.specs.Prelude.{◌≡◌, ◌≢◌, ◌+◌, ◌*◌, ◌<◌, ◌≤◌, ◌^◌, ◌⊎◌, ℕ, [], true, IfOk};
 ghost use Rattle.std.specs.Prelude.{IfErr, OnErr, OnOk, length, vec_len};
-ghost use Rattle.std.specs.Prelude.{option_and_then, option_map};
+ghost use Rattle.std.specs.Prelude.{option_and_then, option_copied, option_map};
 ghost use Rattle.server_rules.specs.Ground.{Ground};
 ghost use Rattle.server_rules.specs.Plan.{tenant_opened};
 ghost use Rattle.server_rules.specs.Machine.Ready.{ready};
@@ -12,6 +12,7 @@ ghost use Rattle.repl_core.specs.Starting.{TellsFault};
 ghost use Rattle.server_rules.specs.Inside.Wires.{wire_at};
 ghost use Rattle.repl_core.specs.Standing.{open_in};
 ghost use Rattle.repl_core.specs.Steps.{step_view, step_answer_view};
+ghost use Rattle.journal_book.specs.Ahead.{next_text_in, tells_value_in};
 ghost use Rattle.journal_book.specs.Alone.{bytes_to, NamesNoSharedIn, IsHonest, steps_of, turns_of};
 ghost use Rattle.tenant_parts.specs.Aside.{printed_in};
 ghost use Rattle.journal_book.specs.Beside.{PrintsStep};
@@ -45,7 +46,6 @@ pub const PARTS: u64 = 5_000_001;
 
 /// The journal of all steps that a server accepted, and the machine that made them. Whoever gets
 /// a book has that its journal replays (`replays`).
-#[derive(Drop)]
 pub struct Book<L: Ledger> {
     alloc: Global,
     config: Config,
@@ -54,6 +54,20 @@ pub struct Book<L: Ledger> {
     counts: ledger::Book<L>,
     rest: Share<L>,
     tenants: u64,
+}
+
+impl<L: Ledger> Drop for Book<L> {
+    fn drop(self) {
+        let Book {
+            alloc: _alloc,
+            config: _config,
+            journal: _journal,
+            machine: _machine,
+            counts: _counts,
+            rest: _rest,
+            tenants: _tenants,
+        } = self;
+    }
 }
 
 impl<L: Ledger> Model for Book<L> {
@@ -185,6 +199,28 @@ impl<L: Ledger> Book<L> {
             (open_in tenant w) }
     {
         Some(self.machine.tenant(tenant)?.wire())
+    }
+
+    /// The text of the request that an actor of a tenant takes up next, if nothing of it is in hand
+    /// and one waits.
+    pub fn next_text(&self, tenant: u64, actor: Actor) -> Option<&str>
+        ensures { (g : Ground) (w : World) → IsConfigured g self.now.config
+            → IsJournal g (opened_world g) (entries self.now.journal) w
+            → option_copied result ≡ next_text_in actor (open_in tenant w) }
+    {
+        self.machine.tenant(tenant)?.next_text(actor)
+    }
+
+    /// Whether the value of the form that an actor of a tenant runs is told when the form ends.
+    pub fn tells_value(&self, tenant: u64, actor: Actor) -> bool
+        ensures { (g : Ground) (w : World) → IsConfigured g self.now.config
+            → IsJournal g (opened_world g) (entries self.now.journal) w
+            → result ≡ tells_value_in actor (open_in tenant w) }
+    {
+        match self.machine.tenant(tenant) {
+            Some(tenant) => tenant.tells_value(actor),
+            None => false,
+        }
     }
 
     /// Opens the next tenant, which is counted on the first of its seats. Where it is refused

@@ -1,20 +1,25 @@
-//! Times layers of the server alone: the decoder of messages, the walker, the table of refs, and
-//! atoms and agents.
+//! Times layers of the server alone: the decoder of messages, the walker, the table of refs, atoms
+//! and agents, and the acts of a book.
 //! Each line of standard input names a layer and gives numbers; what stands behind the line `wire`
-//! is a bencode stream.
+//! or `acts` is a bencode stream.
 #![tactic(auto)]
 
+ghost use Rattle.std.specs.Prelude.{◌≡◌};
 ghost use Rattle.ref_history.specs.Changes.{IsAbsent};
 ghost use Rattle.ref_history.specs.declared.ref_id.RefId.{RefId};
 
+mod acts;
 mod cells;
 mod refs;
 mod walker;
 mod wire;
 
+use journal_book::PARTS;
 use ref_history::{History, ListHistory, RingHistory};
 use std::io::{self, Read};
+use std::marker::Brand;
 use std::str::SplitWhitespace;
+use std::sync::ledger::Blank;
 
 // What is no number counts as 0.
 fn number_of(word: Option<&str>) -> u64 {
@@ -61,6 +66,34 @@ fn time_wire(rt: &HostRuntime) -> io::Result<()> {
     println!(rt; "{messages} messages")
 }
 
+// How many microseconds the longest act of each kind takes.
+fn time_acts(rt: &HostRuntime) -> io::Result<()> {
+    let mut stream = Vec::new(rt.alloc());
+    rt.reader().read_to_end(&mut stream)?;
+    let longest = longest_acts(rt, Blank::new(PARTS), stream.as_slice())?;
+    let acts::Longest {
+        hear,
+        start,
+        ask,
+        end,
+        drain,
+        leave,
+    } = longest;
+    println!(rt;
+        "microseconds: hear {}, start {}",
+        hear / 1_000,
+        start / 1_000
+    )?;
+    println!(rt; "ask {}, end {}", ask / 1_000, end / 1_000)?;
+    println!(rt; "drain {}, leave {}", drain / 1_000, leave / 1_000)
+}
+
+fn longest_acts(rt: &HostRuntime, blank: Blank, stream: &[u8]) -> io::Result<acts::Longest>
+    requires { blank.parts ≡ 5000001 }
+{
+    acts::run::<Brand, HostRuntime>(rt, rt.alloc(), blank, stream)
+}
+
 // Times the layer that the line names, and answers whether a line may follow it.
 fn time_layer(rt: &HostRuntime, line: &str) -> io::Result<bool> {
     let mut words = line.split_whitespace();
@@ -71,6 +104,10 @@ fn time_layer(rt: &HostRuntime, line: &str) -> io::Result<bool> {
         Some("walker") => time_walker(rt, &mut words)?,
         Some("wire") => {
             time_wire(rt)?;
+            return Ok(false);
+        }
+        Some("acts") => {
+            time_acts(rt)?;
             return Ok(false);
         }
         _ => println!(rt; "no such layer: {line}")?,

@@ -13,6 +13,8 @@ mod ends;
 #[cfg(test)]
 mod failures;
 #[cfg(test)]
+mod knowing;
+#[cfg(test)]
 mod memory;
 #[cfg(test)]
 mod runners;

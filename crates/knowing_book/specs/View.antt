@@ -1,0 +1,48 @@
+-- What is seen of a form between its steps, and what a step of it comes to.
+use Rattle.std.specs.Prelude.{[]}
+use Rattle.repl_asks.specs.Inside.View.{ask_view, answer_view, trace_view}
+use Rattle.repl_asks.specs.Inside.Jobs.{job_view}
+use Rattle.repl_asks.specs.declared.answer.Answer.{Answer}
+use Rattle.repl_asks.specs.declared.ask.Ask.{Ask}
+use Rattle.repl_asks.specs.declared.job.Job.{Job}
+use Rattle.repl_walker.specs.Waits.{progress_job, progress_trace}
+use Rattle.repl_walker.specs.declared.ending.Ending.{Ending}
+use Rattle.repl_walker.specs.declared.waiting.Progress.{Progress}
+use Rattle.repl_walker.specs.declared.waiting.Walk.{Walk}
+use Rattle.server_rules.specs.Plan.{StepAnswer, form_begun, ask_answered}
+use Rattle.server_rules.specs.Machine.World.{Step}
+use Rattle.server_rules.specs.Request.{Run}
+use Rattle.server_rules.specs.declared.actor.Actor.{Actor}
+use Rattle.journal_book.specs.Journal.{EntryData}
+use Rattle.journal_book.specs.Standing.{IsAnswered, Notes, entry}
+use Rattle.journal_book.specs.View.{BookData, entries}
+use Rattle.tenant_asks.specs.Asking.{exchange_from, run_with}
+
+-- a form that asks, and one that ends
+pub record QuestionData : Type 0 where
+  pub actor : Actor
+  pub ask : Ask
+
+pub record FinishData : Type 0 where
+  pub actor : Actor
+  pub ending : Ending
+
+abbrev pub run_of : Progress → Run
+run_of p = record { job = progress_job p; trace = progress_trace p }
+
+abbrev pub walk_run : Walk → Run
+walk_run w = record { job = job_view w.job; trace = trace_view w.trace.items }
+
+-- the form behind an answer
+abbrev pub answered_run : Walk → Answer → Run
+answered_run w answer =
+    run_with (exchange_from (ask_view w.ask) (answer_view answer)) (walk_run w)
+
+abbrev pub begun_run : Job → Run
+begun_run job = record { job = job_view job; trace = [] }
+
+-- a step was answered as the server does to which the journal led, with such an answer, and written
+-- down with it
+abbrev pub IsNoted : BookData → BookData → Step → (StepAnswer → Type 0) → Type 0
+IsNoted old new s Fits = (answer : StepAnswer) × Notes old new (entry s answer)
+    × IsAnswered old.config (entries old.journal) s answer × Fits answer

@@ -1,0 +1,532 @@
+// The book, what is known of its journal, and where the last entries of actors stand.
+ghost use Rattle.std.specs.Prelude.{◌≡◌, ◌≢◌, ◌+◌, List, [], ◌∷◌, ◌++◌, true};
+ghost use Rattle.std.specs.Prelude.{IfOk, IfErr, IfSome, OnErr, OnOk, Some, length};
+ghost use Rattle.repl_asks.specs.Inside.View.{ask_view, answer_view};
+ghost use Rattle.repl_asks.specs.Inside.Jobs.{job_view};
+ghost use Rattle.repl_walker.specs.Ends.{ending_view};
+ghost use Rattle.server_rules.specs.Plan.{starts, asks_for, ends, tenant_opened};
+ghost use Rattle.server_rules.specs.Plan.{form_begun, ask_answered};
+ghost use Rattle.server_rules.specs.Machine.World.{does, opens, closes};
+ghost use Rattle.server_rules.specs.Machine.Turns.{whose_step};
+ghost use Rattle.server_rules.specs.Request.{Run};
+ghost use Rattle.repl_core.specs.Forms.{form_by_step};
+ghost use Rattle.repl_core.specs.Steps.{step_view, step_answer_view};
+ghost use Rattle.history.specs.Lasts.{AreLasts};
+ghost use Rattle.tenant_parts.specs.Aside.{printed_in};
+ghost use Rattle.journal_book.specs.Beside.{PrintsStep};
+ghost use Rattle.journal_book.specs.Forms.{form_told, EndsAsTold};
+ghost use Rattle.journal_book.specs.Journal.{EntryData};
+ghost use Rattle.journal_book.specs.Standing.{IsAnswered, IsRefused, Notes, entry};
+ghost use Rattle.journal_book.specs.View.{entries, seat_with};
+ghost use Rattle.knowing_book.specs.Keys.{entry_key, last_by};
+ghost use Rattle.knowing_book.specs.Knowledge.{Knows, Shares};
+ghost use Rattle.knowing_book.specs.View.{IsNoted};
+
+use crate::forms::{Begun, Fact, Finish, Question, Reply};
+use crate::keys::{actor_key, step_key};
+use history::{Known, Lasts, Length, Naming, Opened};
+use journal_book::{Beside, Book, Entry, Places, Receipt, Seat};
+use paged_list::Pages;
+use repl_core::{Refused, Step, StepAnswer};
+use server_rules::{Actor, Refusal};
+use std::alloc::Global;
+use std::marker::Model;
+use std::sync::ledger::Ledger;
+
+/// A book, and what whoever holds it knows of its journal for good. Contracts see the book.
+pub struct KnowingBook<L: Ledger, N: Naming> {
+    book: Book<L>,
+    whole: Length<Entry, N>,
+    known: Option<Known<Entry, N>>,
+    lasts: Lasts,
+}
+
+impl<L: Ledger, N: Naming> Drop for KnowingBook<L, N> {
+    fn drop(self) {
+        let KnowingBook {
+            book: _book,
+            whole: _whole,
+            known: _known,
+            lasts: _lasts,
+        } = self;
+    }
+}
+
+impl<L: Ledger, N: Naming> Model for KnowingBook<L, N> {
+    ghost use Rattle.std.specs.Prelude.{◌≡◌, IfSome};
+    ghost use Rattle.std.specs.Coded.{codes};
+    ghost use Rattle.history.specs.Lasts.{AreLasts};
+    ghost use Rattle.journal_book.specs.contracts.entry.Entry as kept;
+    ghost use Rattle.journal_book.specs.View.{BookData, entries};
+    ghost use Rattle.knowing_book.specs.Keys.{entry_key};
+
+    ghost Value = { BookData };
+
+    ghost coded = { Prim.hlevel (codes, kept.the_row.coded) };
+
+    ghost view = { λ b. b.book };
+
+    ghost invariant = { λ b. IfSome b.known (λ es. entries es ≡ entries b.book.journal)
+        × AreLasts entry_key (entries b.book.journal) b.lasts };
+}
+
+/// An ask that was refused, and why.
+#[derive(Drop)]
+pub struct Unasked<N: Naming> {
+    pub why: Refusal,
+    pub question: Question<N>,
+}
+
+/// An ending that was refused, and why.
+#[derive(Drop)]
+pub struct Unended<N: Naming> {
+    pub why: Refusal,
+    pub finish: Finish<N>,
+}
+
+impl<L: Ledger, N: Naming> KnowingBook<L, N> {
+    /// A book whose journal is empty, under a history of its own.
+    pub fn new(alloc: Global, book: Book<L>, opened: Opened<Entry>) -> KnowingBook<L, N>
+        requires empty { book.journal ≡ [] }
+        requires name { opened.seen.book ≡ N.book }
+        ensures { result ≡ book }
+    {
+        let (whole, known) = opened.named::<N>();
+        KnowingBook {
+            book,
+            whole,
+            known: Some(known),
+            lasts: Lasts::new(alloc),
+        }
+    }
+
+    /// The book.
+    pub fn book(&self) -> &Book<L>
+        ensures { result.now ≡ self.now }
+    {
+        &self.book
+    }
+
+    /// The book, of which no more is known.
+    pub fn into_book(self) -> Book<L>
+        ensures { result ≡ self }
+    {
+        let KnowingBook {
+            book,
+            whole: _whole,
+            known: _known,
+            lasts: _lasts,
+        } = self;
+        book
+    }
+
+    /// Gives up what is known of the journal: from now on each ending is compared.
+    pub fn forget(&mut self)
+        ensures { self.new ≡ self.old }
+    {
+        self.known = None;
+    }
+
+    /// Whether this ending, handed in now from a seat of its tenant, would be believed.
+    pub fn believes(&self, finish: &Finish<N>) -> bool {
+        let fact = &finish.fact;
+        let kept = self.lasts.get(actor_key(fact.tenant, fact.actor));
+        shares(&self.known, &fact.known, kept, fact.last)
+    }
+
+    /// Opens the next tenant, as the book does.
+    pub fn admit(&mut self) -> Result<Places<L>, Refusal>
+        ensures journal { IfOk result (λ p. Notes self.old self.new
+            (entry (opens p.tenant) tenant_opened)) }
+        ensures tenants { OnOk result (self.new.tenants ≡ self.old.tenants + 1) }
+        ensures tenant { IfOk result (λ p. p.tenant ≡ self.old.tenants) }
+        ensures seats { IfOk result (λ p. (p.reader ≡ seat_with p.tenant 1)
+            × (p.worker ≡ seat_with p.tenant 0) × (p.other_worker ≡ seat_with p.tenant 0)
+            × (p.writer ≡ seat_with p.tenant 0) × (p.runner ≡ seat_with p.tenant 0)) }
+        ensures stays { OnErr result (self.new ≡ self.old) }
+    {
+        let place = self.book.journal().len();
+        let places = self.book.admit()?;
+        follow(&mut self.lasts, None, false, place);
+        add(&self.whole, &mut self.known, self.book.journal(), place);
+        Ok(places)
+    }
+
+    /// Makes a step of the seat's tenant, as the book does.
+    pub fn act(&mut self, seat: &mut Seat<L>, step: Step) -> Result<Receipt, Refused>
+        requires own { whose_step (step_view step) ≡ seat.old.tenant }
+        requires other { step_view step ≢ opens seat.old.tenant }
+        ensures journal { IfOk result (λ r. Notes self.old self.new
+            (entry (step_view step) (step_answer_view r.answer))) }
+        ensures answer { IfOk result (λ r. IsAnswered self.old.config (entries self.old.journal)
+            (step_view step) (step_answer_view r.answer)) }
+        ensures tenants { self.new.tenants ≡ self.old.tenants }
+        ensures place { IfOk result (λ r. r.place ≡ length self.old.journal) }
+        ensures counted { OnOk result (seat.new ≡ seat_with seat.old.tenant (seat.old.made + 1)) }
+        ensures refused { IfErr result (λ it. IsRefused self.old.config (entries self.old.journal)
+            (step_view step) it.why) }
+        ensures stays { IfErr result (λ it. (self.new ≡ self.old) × (seat.new ≡ seat.old)
+            × (it.step ≡ step)) }
+    {
+        self.make(seat, step, false, &mut Beside::nothing())
+    }
+
+    /// The seat's tenant goes.
+    pub fn leave(&mut self, seat: &mut Seat<L>, beside: &mut Beside) -> Result<Receipt, Refused>
+        ensures journal { IfOk result (λ r. Notes self.old self.new
+            (entry (closes seat.old.tenant) (step_answer_view r.answer))) }
+        ensures tenants { self.new.tenants ≡ self.old.tenants }
+        ensures answer { IfOk result (λ r. IsAnswered self.old.config (entries self.old.journal)
+            (closes seat.old.tenant) (step_answer_view r.answer)) }
+        ensures counted { OnOk result (seat.new ≡ seat_with seat.old.tenant (seat.old.made + 1)) }
+        ensures stays { OnErr result ((self.new ≡ self.old) × (seat.new ≡ seat.old)) }
+    {
+        let tenant = seat.tenant();
+        self.make(seat, Step::Bye(tenant), false, beside)
+    }
+
+    /// An actor of the seat's tenant begins its next form, or takes up its next request. A form that
+    /// begins is given with what is known of it.
+    pub fn start(
+        &mut self,
+        seat: &mut Seat<L>,
+        actor: Actor,
+        beside: &mut Beside,
+    ) -> Result<Option<Begun<N>>, Refusal>
+        ensures noted { IfOk result (λ it. IsNoted self.old self.new
+            (does seat.old.tenant (starts actor))
+            (λ answer. IfSome it (λ job. answer ≡ form_begun (job_view job)))) }
+        ensures tenants { self.new.tenants ≡ self.old.tenants }
+        ensures counted { OnOk result (seat.new ≡ seat_with seat.old.tenant (seat.old.made + 1)) }
+        ensures refused { IfErr result (λ why. IsRefused self.old.config (entries self.old.journal)
+            (does seat.old.tenant (starts actor)) why) }
+        ensures stays { OnErr result ((self.new ≡ self.old) × (seat.new ≡ seat.old)) }
+    {
+        let tenant = seat.tenant();
+        match self.make(seat, Step::Start(tenant, actor), false, beside) {
+            Ok(receipt) => Ok(self.begun(tenant, actor, receipt.answer)),
+            Err(Refused { why, step: _ }) => Err(why),
+        }
+    }
+
+    // The form that began by the last entry, if one did.
+    fn begun(&self, tenant: u64, actor: Actor, answer: StepAnswer) -> Option<Begun<N>>
+        requires { (before : List EntryData) × (entries self.now.journal ≡ before
+            ++ entry (does tenant (starts actor)) (step_answer_view answer) ∷ []) }
+        ensures { IfSome result (λ job. step_answer_view answer ≡ form_begun (job_view job)) }
+    {
+        match answer {
+            StepAnswer::Begun(job) => {
+                let fact = self.fact(tenant, actor);
+                Some(Begun { fact, job })
+            }
+            _ => None,
+        }
+    }
+
+    /// A form asks. It comes back with the answer, and with what is known of it then; or not, where
+    /// it was interrupted. A question that is refused is given back.
+    pub fn ask(
+        &mut self,
+        seat: &mut Seat<L>,
+        question: Question<N>,
+        beside: &mut Beside,
+    ) -> Result<Option<Reply<N>>, Unasked<N>>
+        ensures noted { IfOk result (λ it. IsNoted self.old self.new
+            (does seat.old.tenant (asks_for question.actor (ask_view question.ask)))
+            (λ answer. IfSome it (λ told. answer ≡ ask_answered (answer_view told)))) }
+        ensures tenants { self.new.tenants ≡ self.old.tenants }
+        ensures counted { OnOk result (seat.new ≡ seat_with seat.old.tenant (seat.old.made + 1)) }
+        ensures refused { IfErr result (λ it. IsRefused self.old.config (entries self.old.journal)
+            (does seat.old.tenant (asks_for question.actor (ask_view question.ask))) it.why) }
+        ensures stays { IfErr result (λ it. (self.new ≡ self.old) × (seat.new ≡ seat.old)
+            × (it.question ≡ question)) }
+    {
+        let Question { fact, walk, ask } = question;
+        let tenant = seat.tenant();
+        let fact = fact.of(tenant);
+        let actor = fact.actor;
+        let kept = self.lasts.get(actor_key(tenant, actor));
+        match self.make(seat, Step::Asked(tenant, actor, ask), false, beside) {
+            Ok(
+                Receipt {
+                    place: _,
+                    answer: StepAnswer::Answer(told),
+                },
+            ) => Ok(Some(Reply {
+                fact: self.later(fact, kept),
+                walk,
+                answer: told,
+            })),
+            Ok(_) => {
+                beside.walk = Some(walk);
+                Ok(None)
+            }
+            Err(
+                Refused {
+                    why,
+                    step: Step::Asked(_, _, ask),
+                },
+            ) => {
+                let question = Question { fact, walk, ask };
+                Err(Unasked { why, question })
+            }
+            Err(_) => unreachable!(),
+        }
+    }
+
+    /// A form ends. Where its actor's last entry is the one that its worker knows of, two numbers are
+    /// compared and nothing of its trace is; else the whole of it. An ending that is refused is given
+    /// back.
+    pub fn end(
+        &mut self,
+        seat: &mut Seat<L>,
+        finish: Finish<N>,
+        beside: &mut Beside,
+    ) -> Result<Receipt, Unended<N>>
+        ensures journal { IfOk result (λ r. Notes self.old self.new (entry
+            (does seat.old.tenant (ends finish.actor (ending_view finish.ending)))
+            (step_answer_view r.answer))) }
+        ensures answer { IfOk result (λ r. IsAnswered self.old.config (entries self.old.journal)
+            (does seat.old.tenant (ends finish.actor (ending_view finish.ending)))
+            (step_answer_view r.answer)) }
+        ensures tenants { self.new.tenants ≡ self.old.tenants }
+        ensures place { IfOk result (λ r. r.place ≡ length self.old.journal) }
+        ensures counted { OnOk result (seat.new ≡ seat_with seat.old.tenant (seat.old.made + 1)) }
+        ensures refused { IfErr result (λ it. IsRefused self.old.config (entries self.old.journal)
+            (does seat.old.tenant (ends finish.actor (ending_view finish.ending))) it.why) }
+        ensures stays { IfErr result (λ it. (self.new ≡ self.old) × (seat.new ≡ seat.old)
+            × (it.finish ≡ finish)) }
+    {
+        let Finish {
+            fact,
+            ending,
+            printed,
+        } = finish;
+        beside.aside.printed = printed;
+        let tenant = seat.tenant();
+        let fact = fact.of(tenant);
+        let actor = fact.actor;
+        let kept = self.lasts.get(actor_key(tenant, actor));
+        let is_known = shares(&self.known, &fact.known, kept, fact.last);
+        match self.make(seat, Step::Ended(tenant, actor, ending), is_known, beside) {
+            Ok(receipt) => Ok(receipt),
+            Err(
+                Refused {
+                    why,
+                    step: Step::Ended(_, _, ending),
+                },
+            ) => {
+                let finish = Finish {
+                    fact,
+                    ending,
+                    printed: None,
+                };
+                Err(Unended { why, finish })
+            }
+            Err(_) => unreachable!(),
+        }
+    }
+
+    // Makes a step. Where its form is known nothing of it is compared.
+    fn make(
+        &mut self,
+        seat: &mut Seat<L>,
+        step: Step,
+        is_known: bool,
+        beside: &mut Beside,
+    ) -> Result<Receipt, Refused>
+        requires own { whose_step (step_view step) ≡ seat.old.tenant }
+        requires other { step_view step ≢ opens seat.old.tenant }
+        requires told { is_known ≡ true → EndsAsTold (entries self.old.journal) (step_view step) }
+        requires printed { PrintsStep (printed_in beside.old.aside) (step_view step) }
+        ensures journal { IfOk result (λ r. Notes self.old self.new
+            (entry (step_view step) (step_answer_view r.answer))) }
+        ensures answer { IfOk result (λ r. IsAnswered self.old.config (entries self.old.journal)
+            (step_view step) (step_answer_view r.answer)) }
+        ensures tenants { self.new.tenants ≡ self.old.tenants }
+        ensures place { IfOk result (λ r. r.place ≡ length self.old.journal) }
+        ensures counted { OnOk result (seat.new ≡ seat_with seat.old.tenant (seat.old.made + 1)) }
+        ensures refused { IfErr result (λ it. IsRefused self.old.config (entries self.old.journal)
+            (step_view step) it.why) }
+        ensures stays { IfErr result (λ it. (self.new ≡ self.old) × (seat.new ≡ seat.old)
+            × (it.step ≡ step)) }
+    {
+        let key = step_key(&step);
+        let is_end = matches!(step, Step::Ended(_, _, _));
+        let receipt = self.book.act_with(seat, step, is_known, beside)?;
+        follow(&mut self.lasts, key, is_end, receipt.place);
+        add(
+            &self.whole,
+            &mut self.known,
+            self.book.journal(),
+            receipt.place,
+        );
+        Ok(receipt)
+    }
+
+    // What is known now of the form of an actor.
+    fn fact(&self, tenant: u64, actor: Actor) -> Fact<N>
+        ensures tenant { result.tenant ≡ tenant }
+        ensures actor { result.actor ≡ actor }
+        ensures known { (form : Run) → form_told tenant actor (entries self.now.journal) ≡ Some form
+            → Knows result.known tenant actor result.last form }
+        ensures whole { IfSome result.known (λ es. entries es ≡ entries self.now.journal) }
+    {
+        let tells = self.book.tells_value(tenant, actor);
+        match self.lasts.get(actor_key(tenant, actor)) {
+            Some(last) => Fact {
+                tenant,
+                actor,
+                last,
+                known: again(&self.known),
+                tells,
+            },
+            None => Fact {
+                tenant,
+                actor,
+                last: 0,
+                known: None,
+                tells,
+            },
+        }
+    }
+
+    // What is known of a form behind one more entry of its actor, where this was known before, and
+    // the actor's last entry then was the one with this number.
+    fn later(&self, fact: Fact<N>, kept: Option<u64>) -> Fact<N>
+        ensures tenant { result.tenant ≡ fact.tenant }
+        ensures actor { result.actor ≡ fact.actor }
+        ensures known { (before : List EntryData) (e : EntryData) (form now : Run)
+            → entries self.now.journal ≡ before ++ e ∷ []
+            → IfSome kept (λ n. n ≡ last_by fact.tenant fact.actor before)
+            → Knows fact.known fact.tenant fact.actor fact.last form
+            → form_by_step fact.tenant fact.actor e.step e.answer (Some form) ≡ Some now
+            → Knows result.known fact.tenant fact.actor result.last now }
+    {
+        let Fact {
+            tenant,
+            actor,
+            last: before,
+            known: mine,
+            tells,
+        } = fact;
+        let now = self.fact(tenant, actor);
+        if shares(&now.known, &mine, kept, before) {
+            return now;
+        }
+        Fact {
+            tenant,
+            actor,
+            last: 0,
+            known: None,
+            tells,
+        }
+    }
+}
+
+// Follows an actor's entries, but not beyond the end of its form.
+fn follow(lasts: &mut Lasts, key: Option<u64>, is_end: bool, place: u64)
+    ensures { (before : List EntryData) (e : EntryData) → AreLasts entry_key before lasts.old
+        → entry_key e ≡ key → length before ≡ place
+        → AreLasts entry_key (before ++ e ∷ []) lasts.new }
+{
+    match key {
+        Some(key) => follow_key(lasts, key, is_end, place),
+        None => {}
+    }
+}
+
+fn follow_key(lasts: &mut Lasts, key: u64, is_end: bool, place: u64)
+    ensures { (before : List EntryData) (e : EntryData) → AreLasts entry_key before lasts.old
+        → entry_key e ≡ Some key → length before ≡ place
+        → AreLasts entry_key (before ++ e ∷ []) lasts.new }
+{
+    if is_end {
+        lasts.forget(key);
+        return;
+    }
+    if place >= 1 << 63 {
+        lasts.forget(key);
+        return;
+    }
+    lasts.note(key, place);
+}
+
+// The entry that was just written is added to what is known; or nothing is known any more.
+fn add<N: Naming>(
+    whole: &Length<Entry, N>,
+    known: &mut Option<Known<Entry, N>>,
+    journal: &Pages<Entry>,
+    place: u64,
+)
+    requires { IfSome known.old (λ es. place ≡ length es) }
+    ensures { (e : EntryData) → IfSome known.old (λ es. entries journal.now.items ≡ entries es ++ e ∷ [])
+        → IfSome known.new (λ es. entries es ≡ entries journal.now.items) }
+{
+    let longer = match known.take() {
+        Some(known) => longer(whole, known, journal, place),
+        None => None,
+    };
+    *known = longer;
+}
+
+fn longer<N: Naming>(
+    whole: &Length<Entry, N>,
+    known: Known<Entry, N>,
+    journal: &Pages<Entry>,
+    place: u64,
+) -> Option<Known<Entry, N>>
+    requires { place ≡ length known }
+    ensures { (e : EntryData) → entries journal.now.items ≡ entries known ++ e ∷ []
+        → IfSome result (λ es. entries es ≡ entries journal.now.items) }
+{
+    if place >= 1 << 63 {
+        return None;
+    }
+    let (_, page) = journal.pages();
+    let Some(entry) = page.last() else {
+        return None;
+    };
+    let mut known = known;
+    if known.add(whole, place, entry) {
+        Some(known)
+    } else {
+        None
+    }
+}
+
+fn again<N: Naming>(known: &Option<Known<Entry, N>>) -> Option<Known<Entry, N>>
+    ensures { result ≡ known.now }
+{
+    match known {
+        Some(known) => Some(known.again()),
+        None => None,
+    }
+}
+
+// Whether both are known, and the number that is kept of an actor is the one that its worker knows.
+fn shares<N: Naming>(
+    whole: &Option<Known<Entry, N>>,
+    known: &Option<Known<Entry, N>>,
+    kept: Option<u64>,
+    last: u64,
+) -> bool
+    ensures { result ≡ true → Shares whole.now known.now kept last }
+{
+    let Some(all) = whole else {
+        return false;
+    };
+    let Some(mine) = known else {
+        return false;
+    };
+    let Some(kept) = kept else {
+        return false;
+    };
+    if kept != last {
+        return false;
+    }
+    let mut both = all.again();
+    both.learn(mine);
+    true
+}

@@ -1,0 +1,285 @@
+// A form between its steps, with what is known of it for good.
+ghost use Rattle.std.specs.Prelude.{◌≡◌, ℕ, IfOk, option_map, string_bytes};
+ghost use Rattle.repl_asks.specs.Inside.Jobs.{finished_view};
+ghost use Rattle.server_rules.specs.Request.{Run};
+ghost use Rattle.tenant_parts.specs.Printed.{PrintsEnd};
+ghost use Rattle.knowing_book.specs.Knowledge.{Knows};
+ghost use Rattle.knowing_book.specs.View.{run_of};
+
+use history::{Known, Naming};
+use journal_book::Entry;
+use repl_asks::{Answer, Ask, End, Finished, Job};
+use repl_values::print_into;
+use repl_walker::{Ending, Progress, Walk, start};
+use server_rules::Actor;
+use std::alloc::{AllocError, Global};
+use std::boxed::Box;
+use std::marker::Model;
+
+/// Whose form it is, up to which entry its actor's last one stands, and a beginning of the journal
+/// that tells the form up to there, if one is known.
+#[derive(Drop)]
+pub(crate) struct Fact<N: Naming> {
+    pub(crate) tenant: u64,
+    pub(crate) actor: Actor,
+    pub(crate) last: u64,
+    pub(crate) known: Option<Known<Entry, N>>,
+    // whether its value is told at its end
+    pub(crate) tells: bool,
+}
+
+impl<N: Naming> Fact<N> {
+    // The same as a fact of this tenant: of another nothing is known.
+    pub(crate) fn of(self, tenant: u64) -> Fact<N>
+        ensures tenant { result.tenant ≡ tenant }
+        ensures actor { result.actor ≡ self.actor }
+        ensures known { (form : Run) → Knows self.known self.tenant self.actor self.last form
+            → Knows result.known tenant self.actor result.last form }
+    {
+        let Fact {
+            tenant: whose,
+            actor,
+            last,
+            known,
+            tells,
+        } = self;
+        let known = if whose == tenant { known } else { None };
+        Fact {
+            tenant,
+            actor,
+            last,
+            known,
+            tells,
+        }
+    }
+}
+
+/// A form that began. Contracts see its job.
+#[derive(Drop)]
+pub struct Begun<N: Naming> {
+    pub(crate) fact: Fact<N>,
+    pub(crate) job: Job,
+}
+
+impl<N: Naming> Model for Begun<N> {
+    ghost use Rattle.std.specs.Coded.{codes};
+    ghost use Rattle.repl_asks.specs.contracts.job.Job as jobs;
+    ghost use Rattle.repl_asks.specs.declared.job.Job.{Job};
+    ghost use Rattle.knowing_book.specs.Knowledge.{Knows};
+    ghost use Rattle.knowing_book.specs.View.{begun_run};
+
+    ghost Value = { Job };
+
+    ghost coded = { Prim.hlevel (codes, jobs.the_row.coded) };
+
+    ghost view = { λ b. b.job };
+
+    ghost invariant = { λ b. Knows b.fact.known b.fact.tenant b.fact.actor b.fact.last
+        (begun_run b.job) };
+}
+
+/// A form that asks. Contracts see its actor and its ask.
+#[derive(Drop)]
+pub struct Question<N: Naming> {
+    pub(crate) fact: Fact<N>,
+    pub(crate) walk: Walk,
+    pub(crate) ask: Box<Ask>,
+}
+
+impl<N: Naming> Model for Question<N> {
+    ghost use Rattle.std.specs.Prelude.{◌≡◌};
+    ghost use Rattle.std.specs.Coded.{codes};
+    ghost use Rattle.repl_asks.specs.Inside.View.{ask_view};
+    ghost use Rattle.repl_asks.specs.contracts.ask.Ask as asks;
+    ghost use Rattle.server_rules.specs.contracts.actor.Actor as actors;
+    ghost use Rattle.knowing_book.specs.Knowledge.{Knows};
+    ghost use Rattle.knowing_book.specs.View.{QuestionData, walk_run};
+
+    ghost Value = { QuestionData };
+
+    ghost coded = { Prim.hlevel (codes, asks.the_row.coded, actors.the_row.coded) };
+
+    ghost view = { λ q. record { actor = q.fact.actor; ask = q.ask.value } };
+
+    ghost invariant = { λ q. (ask_view q.ask.value ≡ ask_view q.walk.ask)
+        × Knows q.fact.known q.fact.tenant q.fact.actor q.fact.last (walk_run q.walk) };
+}
+
+/// A form with the answer to its ask. Contracts see the answer.
+#[derive(Drop)]
+pub struct Reply<N: Naming> {
+    pub(crate) fact: Fact<N>,
+    pub(crate) walk: Walk,
+    pub(crate) answer: Answer,
+}
+
+impl<N: Naming> Model for Reply<N> {
+    ghost use Rattle.std.specs.Coded.{codes};
+    ghost use Rattle.repl_asks.specs.contracts.answer.Answer as answers;
+    ghost use Rattle.repl_asks.specs.declared.answer.Answer.{Answer};
+    ghost use Rattle.knowing_book.specs.Knowledge.{Knows};
+    ghost use Rattle.knowing_book.specs.View.{answered_run};
+
+    ghost Value = { Answer };
+
+    ghost coded = { Prim.hlevel (codes, answers.the_row.coded) };
+
+    ghost view = { λ r. r.answer };
+
+    ghost invariant = { λ r. Knows r.fact.known r.fact.tenant r.fact.actor r.fact.last
+        (answered_run r.walk r.answer) };
+}
+
+/// A form that ended. Contracts see its actor and its ending.
+#[derive(Drop)]
+pub struct Finish<N: Naming> {
+    pub(crate) fact: Fact<N>,
+    pub(crate) ending: Box<Ending>,
+    // its value as it is printed, if it was printed
+    pub(crate) printed: Option<String>,
+}
+
+impl<N: Naming> Model for Finish<N> {
+    ghost use Rattle.std.specs.Coded.{codes};
+    ghost use Rattle.repl_walker.specs.Ends.{ending_view};
+    ghost use Rattle.repl_walker.specs.contracts.ending.Ending as endings;
+    ghost use Rattle.server_rules.specs.contracts.actor.Actor as actors;
+    ghost use Rattle.std.specs.Prelude.{option_map, string_bytes};
+    ghost use Rattle.tenant_parts.specs.Printed.{PrintsEnd};
+    ghost use Rattle.journal_book.specs.Forms.{form_of};
+    ghost use Rattle.knowing_book.specs.Knowledge.{Knows};
+    ghost use Rattle.knowing_book.specs.View.{FinishData};
+
+    ghost Value = { FinishData };
+
+    ghost coded = { Prim.hlevel (codes, endings.the_row.coded, actors.the_row.coded) };
+
+    ghost view = { λ f. record { actor = f.fact.actor; ending = f.ending.value } };
+
+    ghost invariant = { λ f. Knows f.fact.known f.fact.tenant f.fact.actor f.fact.last
+        (form_of (ending_view f.ending.value))
+        × PrintsEnd (option_map string_bytes f.printed) (ending_view f.ending.value).end };
+}
+
+/// How far a form came: to its next ask, or to its end.
+#[derive(Drop)]
+pub enum Stage<N: Naming> {
+    Asks(Question<N>),
+    Ends(Finish<N>),
+}
+
+impl<N: Naming> Begun<N> {
+    /// Whose form it is.
+    pub fn actor(&self) -> Actor {
+        self.fact.actor
+    }
+
+    /// Evaluates up to the first ask or the end. It fails only for want of memory.
+    pub fn evaluate(self, alloc: Global) -> Result<Stage<N>, AllocError> {
+        let Begun { fact, job } = self;
+        let progress = start(alloc, &job)?;
+        reach(alloc, fact, progress)
+    }
+}
+
+impl<N: Naming> Question<N> {
+    /// Whose form it is.
+    pub fn actor(&self) -> Actor {
+        self.fact.actor
+    }
+
+    /// What it asks.
+    pub fn ask(&self) -> &Ask {
+        &self.ask
+    }
+}
+
+impl<N: Naming> Reply<N> {
+    /// Goes on with the answer, up to the next ask or the end. It fails only for want of memory.
+    pub fn resume(self, alloc: Global) -> Result<Stage<N>, AllocError> {
+        let Reply { fact, walk, answer } = self;
+        let progress = walk.resume(alloc, answer)?;
+        reach(alloc, fact, progress)
+    }
+}
+
+impl<N: Naming> Finish<N> {
+    /// Whose form it is.
+    pub fn actor(&self) -> Actor {
+        self.fact.actor
+    }
+
+    /// Prints its value, if that is told and was not printed. It fails only for want of memory.
+    pub fn print(self, alloc: Global) -> Result<Finish<N>, AllocError>
+        ensures { IfOk result (λ it. it ≡ self) }
+    {
+        let Finish {
+            fact,
+            ending,
+            printed,
+        } = self;
+        let printed = match printed {
+            Some(text) => Some(text),
+            None if fact.tells => printed_value(alloc, ending.end())?,
+            None => None,
+        };
+        Ok(Finish {
+            fact,
+            ending,
+            printed,
+        })
+    }
+
+    /// The same of which nothing is known, so that its ending is compared.
+    pub fn forget(self) -> Finish<N>
+        ensures { result ≡ self }
+    {
+        let Finish {
+            mut fact,
+            ending,
+            printed,
+        } = self;
+        fact.known = None;
+        Finish {
+            fact,
+            ending,
+            printed,
+        }
+    }
+}
+
+// How far a form of which this is known came. What is handed in stands in a box.
+fn reach<N: Naming>(
+    alloc: Global,
+    fact: Fact<N>,
+    progress: Progress,
+) -> Result<Stage<N>, AllocError>
+    requires { Knows fact.known fact.tenant fact.actor fact.last (run_of progress) }
+{
+    match progress {
+        Progress::Asks(walk) => {
+            let ask = Box::new(alloc, walk.ask().copy()?)?;
+            Ok(Stage::Asks(Question { fact, walk, ask }))
+        }
+        Progress::Ends(ending) => Ok(Stage::Ends(Finish {
+            fact,
+            ending: Box::new(alloc, ending)?,
+            printed: None,
+        })),
+    }
+}
+
+// The value of a form as it is printed, if it has one.
+fn printed_value(alloc: Global, finished: &Finished) -> Result<Option<String>, AllocError>
+    ensures { IfOk result (λ it. PrintsEnd (option_map string_bytes it)
+        (finished_view finished.now)) }
+{
+    match finished.end() {
+        End::Value(value) => {
+            let mut text = String::new(alloc);
+            print_into(alloc, value, &mut text)?;
+            Ok(Some(text))
+        }
+        End::Fault(_) => Ok(None),
+    }
+}
