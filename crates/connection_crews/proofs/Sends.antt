@@ -493,7 +493,7 @@ manner-send : IsSend manner.the_row
 manner-send = search (made, value-send, number-send) depth 30 fits 20000
 
 run-send : IsSend run.the_row
-run-send = search (made, job-send, exchange-send, heap.Vec-send) depth 30 fits 20000
+run-send = search (made, job-send, exchange-send, heap.Box-send, heap.Vec-send) depth 30 fits 20000
 
 hand-send : IsSend hand.the_row
 hand-send =

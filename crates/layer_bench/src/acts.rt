@@ -4,7 +4,7 @@ ghost use Rattle.std.specs.Prelude.{◌≡◌, []};
 
 use bytes::Bytes;
 use journal_book::{Beside, Book, Entry, Places};
-use knowing_book::{Begun, Finish, KnowingBook, Naming, Opened, Question, Reply, Stage};
+use knowing_book::{Answered, Begun, Finish, KnowingBook, Naming, Opened, Question, Stage};
 use repl_core::{Config, RETRIES, STEPS, SharedText, Step};
 use server_rules::Actor;
 use std::alloc::{AllocError, Global};
@@ -28,6 +28,15 @@ pub(crate) struct Longest {
     pub(crate) end: u128,
     pub(crate) drain: u128,
     pub(crate) leave: u128,
+}
+
+/// How long it takes to copy these bytes into new memory, in nanoseconds.
+pub(crate) fn time_of_copy<R: Clock>(clock: &R, alloc: Global, bytes: &[u8]) -> io::Result<u128> {
+    let begun = Instant::now(clock)?;
+    let copy = Bytes::copy_from_slice(alloc, bytes)?;
+    let took = begun.elapsed(clock)?.as_nanos();
+    drop(copy);
+    Ok(took)
 }
 
 // A book with one tenant.
@@ -168,7 +177,7 @@ impl<'a, L: Ledger, N: Naming, R: Clock> Bench<'a, L, N, R> {
         Ok(())
     }
 
-    fn ask(&mut self, question: Question<N>) -> io::Result<Reply<N>> {
+    fn ask(&mut self, question: Question<N>) -> io::Result<Answered<N>> {
         let mut beside = Beside::nothing();
         let begun = Instant::now(self.clock)?;
         let asked = self
@@ -177,7 +186,7 @@ impl<'a, L: Ledger, N: Naming, R: Clock> Bench<'a, L, N, R> {
         let took = begun.elapsed(self.clock)?.as_nanos();
         self.longest.ask = self.longest.ask.max(took);
         match asked {
-            Ok(Some(reply)) => Ok(reply),
+            Ok(Some(answered)) => Ok(answered),
             _ => Err(refused()),
         }
     }

@@ -21,6 +21,9 @@ use std::marker::Brand;
 use std::str::SplitWhitespace;
 use std::sync::ledger::Blank;
 
+// What a long message has, in bytes.
+const LONG_MESSAGE: usize = 1_000_000;
+
 // What is no number counts as 0.
 fn number_of(word: Option<&str>) -> u64 {
     match word {
@@ -70,6 +73,8 @@ fn time_wire(rt: &HostRuntime) -> io::Result<()> {
 fn time_acts(rt: &HostRuntime) -> io::Result<()> {
     let mut stream = Vec::new(rt.alloc());
     rt.reader().read_to_end(&mut stream)?;
+    let copied = &stream[..stream.len().min(LONG_MESSAGE)];
+    let copy = acts::time_of_copy(rt, rt.alloc(), copied)?;
     let longest = longest_acts(rt, Blank::new(PARTS), stream.as_slice())?;
     let acts::Longest {
         hear,
@@ -85,7 +90,8 @@ fn time_acts(rt: &HostRuntime) -> io::Result<()> {
         start / 1_000
     )?;
     println!(rt; "ask {}, end {}", ask / 1_000, end / 1_000)?;
-    println!(rt; "drain {}, leave {}", drain / 1_000, leave / 1_000)
+    println!(rt; "drain {}, leave {}", drain / 1_000, leave / 1_000)?;
+    println!(rt; "a copy of {} bytes {}", copied.len(), copy / 1_000)
 }
 
 fn longest_acts(rt: &HostRuntime, blank: Blank, stream: &[u8]) -> io::Result<acts::Longest>

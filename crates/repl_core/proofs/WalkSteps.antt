@@ -1,11 +1,12 @@
 -- The evaluations that are kept, through changes.
 use Rattle.std.proofs.Common.{◌≡◌, ◌≢◌, ◌==◌, ℕ, ◌+◌, ◌<◌, List, [], ◌∷◌, ◌++◌, Bool, true, false}
 use Rattle.std.proofs.Common.{Option, Some, None, Result, Ok, Err, OnOk, option_map, take, length, get_or}
-use Rattle.std.proofs.Common.{refl, sym, ap, ◌∙◌, is_some}
+use Rattle.std.proofs.Common.{refl, sym, ap, ◌∙◌, is_some, Box}
+use Rattle.std.specs.Global.{Global}
 use Rattle.std.proofs.lemmas.Bool.{eqb-true, eqb-false, false≢true}
 use Rattle.std.proofs.lemmas.List.{map-append, take_more}
 use Rattle.repl_asks.specs.Exchange.{AnswerData, Exchanged}
-use Rattle.repl_asks.specs.Inside.View.{ask_view, exchange_view, trace_view}
+use Rattle.repl_asks.specs.Inside.View.{ask_view, exchange_view}
 use Rattle.repl_asks.specs.declared.exchange.Exchange.{Exchange}
 use Rattle.repl_asks.specs.InteractionTree.{InteractionTree, finished, asks}
 use Rattle.repl_asks.specs.Leading.{tree_after}
@@ -18,6 +19,7 @@ use Rattle.server_rules.specs.Request.{Run}
 use Rattle.server_rules.specs.Tenant.{Quiet, seat_of}
 use Rattle.server_rules.specs.declared.actor.Actor.{Actor}
 use Rattle.evaluation_rules.specs.Evaluation.{evaluation}
+use Rattle.tenant_parts.specs.View.{kept_trace}
 use Rattle.tenant_asks.specs.Asking.{exchange_from, run_with}
 use Rattle.tenant_world.specs.Running.{running_in}
 use Rattle.repl_core.specs.Inside.Walked.{IsWalkOf, AreWalked}
@@ -70,19 +72,21 @@ walk-resumed run w p answer walk tree =
     ∙ sym (tree_after-more (evaluation run.job) run.trace x)
 
 -- an evaluation that was led by the front of a trace, and goes on with the next answer in it
-pub led-further : (t : InteractionTree) (items : List Exchange) (i : ℕ) (x : Exchange)
+pub led-further : (t : InteractionTree) (items : List (Box Exchange Global)) (i : ℕ)
+    (x : Box Exchange Global)
     (old later : Progress) → i < length items → x ≡ get_or items i x
-    → progress_tree old ≡ tree_after t (trace_view (take i items))
-    → progress_tree later ≡ tree_after (progress_tree old) (exchange_view x ∷ [])
-    → progress_tree later ≡ tree_after t (trace_view (take (i + 1) items))
+    → progress_tree old ≡ tree_after t (kept_trace (take i items))
+    → progress_tree later ≡ tree_after (progress_tree old) (exchange_view x.value ∷ [])
+    → progress_tree later ≡ tree_after t (kept_trace (take (i + 1) items))
 led-further t items i x old later within at led next =
-    let more : trace_view (take (i + 1) items) ≡ trace_view (take i items) ++ exchange_view x ∷ [] =
-    ap trace_view (take_more items i x within)
-    ∙ map-append exchange_view (take i items) (get_or items i x ∷ [])
-    ∙ ap (λ y. trace_view (take i items) ++ exchange_view y ∷ []) (sym at) in
+    let kept : Box Exchange Global → Exchanged = λ y. exchange_view y.value in
+    let more : kept_trace (take (i + 1) items) ≡ kept_trace (take i items) ++ kept x ∷ [] =
+    ap kept_trace (take_more items i x within)
+    ∙ map-append kept (take i items) (get_or items i x ∷ [])
+    ∙ ap (λ y. kept_trace (take i items) ++ kept y ∷ []) (sym at) in
     next
-    ∙ ap (λ u. tree_after u (exchange_view x ∷ [])) led
-    ∙ sym (tree_after-more t (trace_view (take i items)) (exchange_view x))
+    ∙ ap (λ u. tree_after u (kept x ∷ [])) led
+    ∙ sym (tree_after-more t (kept_trace (take i items)) (kept x))
     ∙ sym (ap (tree_after t) more)
 
 pub asks-same : (v w : Walk) → Progress.Asks v ≡ Progress.Asks w → v ≡ w

@@ -13,8 +13,10 @@ use crate::reply::{Body, Origin, Reply};
 use bencode_wire::{Ben, write_into, write_string};
 use std::alloc::{AllocError, Global};
 
-// Most replies take no more bytes than these.
-const FIRST_ROOM: usize = 128;
+// The fields of most replies take no more bytes than these, beside their id, session and text.
+const FIRST_ROOM: usize = 96;
+// An id of a session in a list takes no more bytes than these.
+const ID_ROOM: usize = 40;
 
 /// The reply as a message of the stream: a dictionary with its keys sorted. It fails only for want
 /// of memory.
@@ -56,7 +58,7 @@ impl Origin {
         ensures { IfOk result (λ bytes. bytes.items ≡ bytes_of
             (record { origin = origin_view self.now; body = meant.value value.now ns.now })) }
     {
-        let mut bytes = begun(alloc)?;
+        let mut bytes = self.begun(alloc, value.len().saturating_add(ns.len()))?;
         write_given(b"2:id", &self.id, &mut bytes)?;
         write_text(b"2:ns", ns, &mut bytes)?;
         write_given(b"7:session", &self.session, &mut bytes)?;
@@ -70,7 +72,7 @@ impl Origin {
         ensures { IfOk result (λ bytes. bytes.items ≡ bytes_of
             (record { origin = origin_view self.now; body = meant.output text.now })) }
     {
-        let mut bytes = begun(alloc)?;
+        let mut bytes = self.begun(alloc, text.len())?;
         write_given(b"2:id", &self.id, &mut bytes)?;
         write_text(b"3:out", text, &mut bytes)?;
         write_given(b"7:session", &self.session, &mut bytes)?;
@@ -84,7 +86,7 @@ impl Origin {
             (record { origin = origin_view self.now; body = meant.exception class.now })) }
     {
         let text = class_text(alloc, class)?;
-        let mut bytes = begun(alloc)?;
+        let mut bytes = self.begun(alloc, 0)?;
         write_text(b"2:ex", text.as_str(), &mut bytes)?;
         write_given(b"2:id", &self.id, &mut bytes)?;
         write_text(b"7:root-ex", text.as_str(), &mut bytes)?;
@@ -99,7 +101,7 @@ impl Origin {
         ensures { IfOk result (λ bytes. bytes.items ≡ bytes_of
             (record { origin = origin_view self.now; body = meant.error_text line.now })) }
     {
-        let mut bytes = begun(alloc)?;
+        let mut bytes = self.begun(alloc, line.len())?;
         write_text(b"3:err", line, &mut bytes)?;
         write_given(b"2:id", &self.id, &mut bytes)?;
         write_given(b"7:session", &self.session, &mut bytes)?;
@@ -113,7 +115,7 @@ impl Origin {
           body = meant.unknown_op (field_view op.now);
         })) }
     {
-        let mut bytes = begun(alloc)?;
+        let mut bytes = self.begun(alloc, bytes_in(op))?;
         write_given(b"2:id", &self.id, &mut bytes)?;
         write_given(b"2:op", op, &mut bytes)?;
         write_given(b"7:session", &self.session, &mut bytes)?;
@@ -127,7 +129,7 @@ impl Origin {
         ensures { IfOk result (λ bytes. bytes.items ≡ bytes_of
             (record { origin = origin_view self.now; body = meant.new_session id.now })) }
     {
-        let mut bytes = begun(alloc)?;
+        let mut bytes = self.begun(alloc, 0)?;
         write_given(b"2:id", &self.id, &mut bytes)?;
         write_text(b"11:new-session", id, &mut bytes)?;
         write_given(b"7:session", &self.session, &mut bytes)?;
@@ -142,7 +144,7 @@ impl Origin {
           body = meant.sessions (map string_bytes ids.now);
         })) }
     {
-        let mut bytes = begun(alloc)?;
+        let mut bytes = self.begun(alloc, ids.len().saturating_mul(ID_ROOM))?;
         write_given(b"2:id", &self.id, &mut bytes)?;
         write_given(b"7:session", &self.session, &mut bytes)?;
         bytes.extend_from_slice(b"8:sessions")?;
@@ -156,7 +158,7 @@ impl Origin {
         ensures { IfOk result (λ bytes. bytes.items ≡ bytes_of
             (record { origin = origin_view self.now; body = meant.described })) }
     {
-        let mut bytes = begun(alloc)?;
+        let mut bytes = self.begun(alloc, 0)?;
         bytes.extend_from_slice(b"3:auxde")?;
         write_given(b"2:id", &self.id, &mut bytes)?;
         bytes.extend_from_slice(b"3:ops")?;
@@ -175,22 +177,35 @@ impl Origin {
             ++ behind (codes "7:session") (field_view self.now.session)
             ++ status.now ++ codes "e") }
     {
-        let mut bytes = begun(alloc)?;
+        let mut bytes = self.begun(alloc, 0)?;
         write_given(b"2:id", &self.id, &mut bytes)?;
         write_given(b"7:session", &self.session, &mut bytes)?;
         bytes.extend_from_slice(status)?;
         bytes.extend_from_slice(b"e")?;
         Ok(bytes)
     }
+
+    // A dictionary that is begun, with room for the request's id and session and for a text of so
+    // many bytes: a long reply is written once, and does not move.
+    fn begun(&self, alloc: Global, text: usize) -> Result<Vec<u8>, AllocError>
+        ensures { IfOk result (λ bytes. bytes.items ≡ codes "d") }
+    {
+        let room = FIRST_ROOM
+            .saturating_add(text)
+            .saturating_add(bytes_in(&self.id))
+            .saturating_add(bytes_in(&self.session));
+        let mut bytes = Vec::with_capacity(alloc, room)?;
+        bytes.extend_from_slice(b"d")?;
+        Ok(bytes)
+    }
 }
 
-// A dictionary that is begun.
-fn begun(alloc: Global) -> Result<Vec<u8>, AllocError>
-    ensures { IfOk result (λ bytes. bytes.items ≡ codes "d") }
-{
-    let mut bytes = Vec::with_capacity(alloc, FIRST_ROOM)?;
-    bytes.extend_from_slice(b"d")?;
-    Ok(bytes)
+// How many bytes a string has: what an id or a session is in most requests.
+fn bytes_in(field: &Option<Ben>) -> usize {
+    match field {
+        Some(Ben::String(bytes)) => bytes.len(),
+        _ => 0,
+    }
 }
 
 // The value behind the spelling of its key, if there is a value.

@@ -41,10 +41,11 @@ use crate::sends;
 use crate::sends::{Sender, session_of};
 use ref_history::RingHistory;
 use ref_table::RefTable;
-use repl_asks::{Ask, Exchange, Sending, is_fixed};
+use repl_asks::{Answer, Ask, Exchange, Sending, is_fixed};
 use repl_replies::Origin;
 use server_rules::{Actor, Refusal};
 use std::alloc::{AllocError, Global};
+use std::boxed::Box;
 use std::sync::Arc;
 use tenant_parts::{ActorState, Attempts, Hand, Thrice, call, is_told};
 
@@ -260,7 +261,7 @@ fn answer(
     ensures failed { OnErr result (counter_of refs.new ≡ counter_of refs.old) }
     ensures free { result ≢ Err Refusal.Held }
 {
-    let Ok(asked) = copied_with_room(state, ask) else {
+    let Ok(mut exchange) = exchange_with_room(alloc, state, ask) else {
         return Err(why_refused(alloc, refs, attempts, actor, ask));
     };
     let Some(hand) = &state.hand else {
@@ -273,13 +274,8 @@ fn answer(
         return Err(Refusal::Idle);
     };
     let Thrice { kept, given, noted } = answer;
-    keep(
-        state,
-        Exchange {
-            ask: asked,
-            answer: kept,
-        },
-    );
+    exchange.answer = kept;
+    keep(state, exchange);
     Ok(AskAnswers {
         given: AskAnswer::Answer(given),
         noted: AskAnswer::Answer(noted),
@@ -309,15 +305,24 @@ fn why_refused(
     }
 }
 
-// The ask as it is kept, and room for it in the trace. It fails only for want of memory.
-fn copied_with_room(state: &mut ActorState, ask: &Ask) -> Result<Ask, AllocError>
-    ensures copied { IfOk result (λ it. ask_view it ≡ ask_view ask.now) }
+// The ask as it is kept, with room for its answer, and room for both in the trace. It fails only
+// for want of memory.
+fn exchange_with_room(
+    alloc: Global,
+    state: &mut ActorState,
+    ask: &Ask,
+) -> Result<Box<Exchange>, AllocError>
+    ensures copied { IfOk result (λ it. ask_view it.value.ask ≡ ask_view ask.now) }
     ensures room { OnOk result (ActorHasRoom state.new) }
     ensures same { actor_view state.new ≡ actor_view state.old }
 {
-    let asked = ask.copy()?;
+    let exchange = Exchange {
+        ask: ask.copy()?,
+        answer: Answer::Done,
+    };
+    let exchange = Box::new(alloc, exchange)?;
     make_room(state)?;
-    Ok(asked)
+    Ok(exchange)
 }
 
 // What the answer is, if anything is told, and whatever is asked is done. It fails only for want of

@@ -7,6 +7,7 @@ ghost use Rattle.tenant_asks.specs.Rooms.{RunHasRoom, HandHasRoom, ActorHasRoom}
 
 use repl_asks::Exchange;
 use std::alloc::AllocError;
+use std::boxed::Box;
 use tenant_parts::{ActorState, Hand, Run};
 
 /// Makes room for an ask with its answer in the trace of the form that runs. It fails only for want
@@ -39,10 +40,10 @@ fn make_room_in_run(run: &mut Run) -> Result<(), AllocError>
 }
 
 /// Keeps an ask with its answer in the trace of the form that runs. It takes no memory.
-pub(crate) fn keep(state: &mut ActorState, exchange: Exchange)
+pub(crate) fn keep(state: &mut ActorState, exchange: Box<Exchange>)
     requires { ActorHasRoom state.old }
     ensures { actor_view state.new
-        ≡ with_exchange (exchange_view exchange) (actor_view state.old) }
+        ≡ with_exchange (exchange_view exchange.value) (actor_view state.old) }
 {
     match &mut state.hand {
         Some(hand) => keep_in_hand(hand, exchange),
@@ -50,9 +51,9 @@ pub(crate) fn keep(state: &mut ActorState, exchange: Exchange)
     }
 }
 
-fn keep_in_hand(hand: &mut Hand, exchange: Exchange)
+fn keep_in_hand(hand: &mut Hand, exchange: Box<Exchange>)
     requires { HandHasRoom hand.old }
-    ensures { hand_view hand.new ≡ hand_with (exchange_view exchange) (hand_view hand.old) }
+    ensures { hand_view hand.new ≡ hand_with (exchange_view exchange.value) (hand_view hand.old) }
 {
     match &mut hand.running {
         Some(run) => keep_in_run(run, exchange),
@@ -60,9 +61,9 @@ fn keep_in_hand(hand: &mut Hand, exchange: Exchange)
     }
 }
 
-fn keep_in_run(run: &mut Run, exchange: Exchange)
+fn keep_in_run(run: &mut Run, exchange: Box<Exchange>)
     requires { RunHasRoom run.old }
-    ensures { run_view run.new ≡ run_with (exchange_view exchange) (run_view run.old) }
+    ensures { run_view run.new ≡ run_with (exchange_view exchange.value) (run_view run.old) }
 {
     run.trace.push_reserved(exchange);
 }

@@ -2,11 +2,11 @@
 ghost use Rattle.std.specs.Prelude.{◌≡◌, ◌≤◌, false, length, map, option_map};
 ghost use Rattle.std.specs.Prelude.{IfOk, OnErr};
 ghost use Rattle.repl_asks.specs.Exchange as told;
-ghost use Rattle.repl_asks.specs.Inside.View.{ask_view, answer_view, sending_view, trace_view};
+ghost use Rattle.repl_asks.specs.Inside.View.{ask_view, answer_view, sending_view};
 ghost use Rattle.private_cells.specs.Inside.View.{agents_view, room_of};
 ghost use Rattle.server_rules.specs.Asking.{sender_of, session_of, sending_session};
 ghost use Rattle.server_rules.specs.Cells.{is_yes, send_permission, sends_by, stays_inside};
-ghost use Rattle.tenant_parts.specs.View.{hand_view, manner_view, run_view};
+ghost use Rattle.tenant_parts.specs.View.{hand_view, kept_trace, manner_view, run_view};
 ghost use Rattle.tenant_parts.specs.Thrice.{thrice_view, told_answer, IsThrice};
 ghost use Rattle.tenant_asks.specs.Sends.{all_sent, all_sent_if, is_told_yes, outgoing_from};
 ghost use Rattle.tenant_asks.specs.Sends.{outgoing_view};
@@ -200,10 +200,10 @@ pub fn sends_in(
 fn sends_outside(
     alloc: Global,
     sender: Sender<'_>,
-    trace: &[Exchange],
+    trace: &[Box<Exchange>],
 ) -> Result<VecDeque<Outgoing>, AllocError>
     ensures { IfOk result (λ it. map outgoing_view it.items
-        ≡ outgoing_in (sender_view sender.entry) false (trace_view trace.now)) }
+        ≡ outgoing_in (sender_view sender.entry) false (kept_trace trace.now)) }
 {
     let mut sends = VecDeque::new(alloc);
     let mut is_inside = false;

@@ -1,10 +1,13 @@
 -- What an actor of the code, and its requests, are seen as.
-use Rattle.std.specs.Prelude.{map, option_map, string_bytes}
+use Rattle.std.specs.Prelude.{List, map, option_map, string_bytes, Box}
 use Rattle.std.specs.Arc.{arc_value, arc_str_bytes}
+use Rattle.std.specs.Global.{Global}
 use Rattle.value_data.specs.Inside.View.{view, items_view}
 use Rattle.repl_values.specs.Inside.FaultView.{failure_of}
-use Rattle.repl_asks.specs.Inside.View.{trace_view}
+use Rattle.repl_asks.specs.Exchange.{Exchanged}
+use Rattle.repl_asks.specs.Inside.View.{exchange_view}
 use Rattle.repl_asks.specs.Inside.Jobs.{job_view}
+use Rattle.repl_asks.specs.declared.exchange.Exchange.{Exchange}
 use Rattle.repl_replies.specs.Inside.View.{field_view, origin_view}
 use Rattle.server_rules.specs.Numbered.{Entry, entry}
 use Rattle.server_rules.specs.Request as rules
@@ -30,8 +33,11 @@ manner_view Manner.EachFormElsewhere = rules.each_form_elsewhere
 manner_view (Manner.LastForm v) = rules.last_form (view v)
 manner_view (Manner.OfAction session) = rules.of_action session
 
+abbrev pub kept_trace : List (Box Exchange Global) → List Exchanged
+kept_trace = map (λ kept. exchange_view kept.value)
+
 abbrev pub run_view : Run → rules.Run
-run_view r = record { job = job_view r.job; trace = trace_view r.trace.items }
+run_view r = record { job = job_view r.job; trace = kept_trace r.trace.items }
 
 abbrev pub hand_view : Hand → rules.Hand
 hand_view h = record {

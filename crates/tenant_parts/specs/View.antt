@@ -1,6 +1,6 @@
 -- What the actors of the code are seen as.
-pub use Rattle.tenant_parts.specs.States.{text_view, waiting_view, manner_view, run_view}
-pub use Rattle.tenant_parts.specs.States.{hand_view, actor_view, actor_entry_view}
+pub use Rattle.tenant_parts.specs.States.{text_view, waiting_view, manner_view}
+pub use Rattle.tenant_parts.specs.States.{kept_trace, run_view, hand_view, actor_view, actor_entry_view}
 use Rattle.std.specs.Prelude.{ℕ, ◌<◌, List, [], ◌∷◌, ⊤, map}
 use Rattle.server_rules.specs.Numbered.{Entry}
 use Rattle.server_rules.specs.Tenant.{ActorData}

@@ -1,8 +1,9 @@
 // A request to evaluate: while it waits, and while it is in hand.
 use bencode_wire::Ben;
-use repl_asks::{Job, Trace};
+use repl_asks::{Exchange, Job};
 use repl_replies::Origin;
 use repl_values::{Fault, Value};
+use std::boxed::Box;
 use std::collections::VecDeque;
 use std::sync::{Arc, ArcStr};
 
@@ -46,7 +47,8 @@ pub enum Manner {
 /// A form that runs: its job, and what it asked and was answered.
 pub struct Run {
     pub job: Job,
-    pub trace: Trace,
+    /// Each exchange has a box of its own, so that little moves where a long trace gets more room.
+    pub trace: Vec<Box<Exchange>>,
 }
 
 impl Drop for Run {

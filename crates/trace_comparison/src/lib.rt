@@ -25,5 +25,5 @@ pub use functions::{same_fault, same_function};
 pub use intents::same_intent;
 pub use jobs::{same_job, same_work};
 pub use sends::{same_sending, same_task};
-pub use traces::{first_difference, same_trace};
+pub use traces::first_difference;
 pub use values::same_value;

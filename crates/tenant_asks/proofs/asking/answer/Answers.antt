@@ -1,5 +1,6 @@
 use Rattle.std.proofs.Common.{ap, subst, sym, ◌∙◌, option_map}
 use Rattle.repl_asks.specs.Inside.View.{ask_view, answer_view}
+use Rattle.repl_asks.specs.declared.exchange.Exchange.{Exchange}
 use Rattle.server_rules.specs.Asking.{quiet_after, sender_of}
 use Rattle.server_rules.specs.Request.{Hand}
 use Rattle.server_rules.specs.Tenant.{ActorData}
@@ -57,11 +58,13 @@ returns-clause-acted c = λ g q s r h run remembers holds allowed hand running.
     (c.in-Ok-perform_ask.ensures.answered g q s r remembers holds allowed) in
     let same = rw c.in-Some-told.is at c.in-Ok-perform_ask.ensures.thrice in
     let put = c.keep.ensures
-    ∙ ap (λ x. with_exchange (exchange_from x kept) (actor_view c.copied_with_room.new.state))
+    ∙ ap (λ (e : Exchange). with_exchange (exchange_from (ask_view e.ask) kept)
+    (actor_view c.exchange_with_room.new.state)) c.deref_mut.ensures.value
+    ∙ ap (λ x. with_exchange (exchange_from x kept) (actor_view c.exchange_with_room.new.state))
     c.in-Ok.ensures.copied
-    ∙ ap (with_exchange (exchange_from ask kept)) c.copied_with_room.ensures.same in
+    ∙ ap (with_exchange (exchange_from ask kept)) c.exchange_with_room.ensures.same in
     let held = held-so (hand_view c.in-Some.hand) h (ap (option_map hand_view) (sym c.in-Some.is)
-    ∙ ap (λ (x : ActorData). x.hand) c.copied_with_room.ensures.same ∙ hand) in
+    ∙ ap (λ (x : ActorData). x.hand) c.exchange_with_room.ensures.same ∙ hand) in
     let R : Hand → Type 0 = λ x. Remembers g s.tenant memory (quiet_after (sender_of a x) ask kept q) in
     let P : Outcome → Type 0 = λ x. AcceptsOutcome g s.tenant a q x memory new (ask_answered given) in (
       subst P (ask_outcome-told g s a actor h run ask q answers.told answers.is_told)
