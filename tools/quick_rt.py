@@ -12,6 +12,9 @@ it gets those that no other proof has; and a library with much code gets three i
 goes on when the others of its time are done, and then with the jobs that it began with. The number of
 jobs changes no verdict: the kernel checks each item once.
 
+`rt ci` tries must-fail edits beside the proofs for which other crates wait. Here they run at a lower
+priority, and take the processors that the proofs leave.
+
 `rt ci` says of must-fail edits what came of them when all is done; here also when a crate's edits
 are done. Where MINUTES_FOR_EDITS is set, it begins with no crate's edits once edits took so many
 minutes on all processors. Those that are left are not counted, and tools/gate.py names them."""
@@ -32,6 +35,7 @@ MOST_JOBS = 4
 # What a library has of code, in lines of src/, that takes the longest.
 MUCH_CODE, JOBS_FOR_MUCH = 400, 3
 SECONDS_TO_BEGIN = 0.2
+AT_LOWER_PRIORITY = ("nice", "-n", "10")
 
 
 def main(words):
@@ -41,6 +45,8 @@ def main(words):
     rt.rtlib.Crate.stamp = once(rt.rtlib.Crate.stamp)
     rt.Crate.ci = with_idle_processors(rt.Crate.ci)
     minutes = float(os.environ.pop("MINUTES_FOR_EDITS", "inf"))
+    if hasattr(rt, "checked") and hasattr(rt.rtlib, "guarded"):
+        let_proofs_go_first(rt)
     if hasattr(rt, "must_fail_all"):
         rt.must_fail_all = for_so_long(told_at_once(rt.must_fail_all), 60 * minutes * PROCESSORS)
     return rt.main(words)
@@ -114,6 +120,24 @@ def for_so_long(must_fail_all, seconds):
                 used[0] += time.monotonic() - began
 
     return tried
+
+
+def let_proofs_go_first(rt):
+    """The same checks of edits, which wait where a proof wants the processor."""
+    checked, guarded = rt.checked, rt.rtlib.guarded
+
+    def tried(*given):
+        KEPT.is_edit = True
+        try:
+            return checked(*given)
+        finally:
+            del KEPT.is_edit
+
+    def words():
+        before = AT_LOWER_PRIORITY if hasattr(KEPT, "is_edit") else ()
+        return [*before, *guarded()]
+
+    rt.checked, rt.rtlib.guarded = tried, words
 
 
 def with_idle_processors(ci):

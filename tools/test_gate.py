@@ -220,5 +220,14 @@ class Jobs(unittest.TestCase):
         self.assertEqual(self.jobs(one=10, much=1000), {"one": 1, "much": 2})
 
 
+class Priority(unittest.TestCase):
+    def test_a_check_of_an_edit_lets_proofs_go_first(self):
+        rt = types.SimpleNamespace(rtlib=types.SimpleNamespace(guarded=lambda: ["guard"]))
+        rt.checked = lambda *given: (given, rt.rtlib.guarded())
+        quick_rt.let_proofs_go_first(rt)
+        self.assertEqual(rt.checked("crate", {}), (("crate", {}), ["nice", "-n", "10", "guard"]))
+        self.assertEqual(rt.rtlib.guarded(), ["guard"])
+
+
 if __name__ == "__main__":
     unittest.main()
