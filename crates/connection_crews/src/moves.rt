@@ -5,7 +5,7 @@ use crate::desk::{Call, Desk, Duty, Event, Seen};
 use crate::gate::Gate;
 use bytes::Bytes;
 use journal_book::{Beside, Seat};
-use knowing_book::{Begun, Finish, KnowingBook, Naming, Question, Reply, Unasked, Unended};
+use knowing_book::{Answered, Begun, Finish, KnowingBook, Naming, Question, Unasked, Unended};
 use repl_asks::Ask;
 use repl_core::{Refused, Step, StepAnswer};
 use server_rules::{Actor, Refusal, Wire};
@@ -76,7 +76,7 @@ pub(crate) enum Found<N: Naming> {
 /// What an evaluation was told.
 #[derive(Drop)]
 pub(crate) enum Told<N: Naming> {
-    Reply(Reply<N>),
+    Answered(Answered<N>),
     // an await that is not met when so much had come
     Waiting(Question<N>, Seen),
     Interrupted(Vec<Vec<u8>>),
@@ -255,11 +255,11 @@ impl<'a, L: Ledger, N: Naming, G: Gate> Connection<'a, L, N, G> {
         let mut beside = Beside::nothing();
         let mut book = locked(rt, self.book);
         match book.ask(seat, question, &mut beside) {
-            Ok(Some(reply)) => {
+            Ok(Some(answered)) => {
                 if wakes {
                     self.desk.wake_agents(rt);
                 }
-                Told::Reply(reply)
+                Told::Answered(answered)
             }
             Ok(None) => Told::Interrupted(self.replies(rt, &mut *book, seat)),
             Err(

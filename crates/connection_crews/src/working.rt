@@ -4,7 +4,7 @@ use crate::gate::Gate;
 use crate::moves::{Connection, Ended, Found, Told};
 use crate::reading::{Came, EMPTY_PIECE, Piece, read_piece};
 use journal_book::Seat;
-use knowing_book::{Begun, Finish, Naming, Question, Reply, Stage};
+use knowing_book::{Answered, Begun, Finish, Naming, Question, Stage};
 use repl_asks::Ask;
 use std::sync::Wait;
 use std::sync::ledger::Ledger;
@@ -215,13 +215,13 @@ impl<'c, 'a, L: Ledger, N: Naming, R: Wait, G: Gate> Worker<'c, 'a, L, N, R, G> 
     fn evaluate(&mut self, begun: Begun<N>) -> Next {
         let mut reached = begun.evaluate(self.connection.alloc);
         for _ in self.rt.forever() {
-            let reply = match reached {
+            let answered = match reached {
                 Ok(Stage::Asks(question)) => self.ask(question),
                 Ok(Stage::Ends(finish)) => Err(self.end(finish)),
                 Err(_) => Err(Next::Cut),
             };
-            match reply {
-                Ok(reply) => reached = reply.resume(self.connection.alloc),
+            match answered {
+                Ok(answered) => reached = answered.resume(self.connection.alloc),
                 Err(next) => return next,
             }
         }
@@ -229,7 +229,7 @@ impl<'c, 'a, L: Ledger, N: Naming, R: Wait, G: Gate> Worker<'c, 'a, L, N, R, G> 
     }
 
     // Passes the gate, and has the ask of a form answered, an await once it is met.
-    fn ask(&mut self, mut question: Question<N>) -> Result<Reply<N>, Next> {
+    fn ask(&mut self, mut question: Question<N>) -> Result<Answered<N>, Next> {
         self.count_move();
         if self.connection.desk.is_over(self.rt) {
             return Err(Next::Cut);
@@ -244,7 +244,7 @@ impl<'c, 'a, L: Ledger, N: Naming, R: Wait, G: Gate> Worker<'c, 'a, L, N, R, G> 
         let turns = turns_for(question.ask());
         for _ in self.rt.forever() {
             match self.connection.ask(self.rt, &mut self.seat, question) {
-                Told::Reply(reply) => return Ok(reply),
+                Told::Answered(answered) => return Ok(answered),
                 Told::Waiting(back, seen) => {
                     self.stop_reading();
                     self.connection.desk.wait_for_turns(self.rt, seen, turns);

@@ -34,6 +34,11 @@ abbrev pub IsRefused : Config → List EntryData → Step → Refusal → Type 0
 IsRefused config journal s why = why ≢ Refusal.NoMemory → (g : Ground) (w : World)
     → IsConfigured g config → IsJournal g (opened_world g) journal w → step g w s ≡ refused why
 
+-- so it is of each server to which the journal of the book leads
+abbrev pub HoldsBehind : BookData → (Ground → World → Type 0) → Type 0
+HoldsBehind book P = (g : Ground) (w : World) → IsConfigured g book.config
+    → IsJournal g (opened_world g) (entries book.journal) w → P g w
+
 abbrev pub entry : Step → StepAnswer → EntryData
 entry s answer = record { step = s; answer = answer }
 

@@ -20,7 +20,7 @@ ghost use Rattle.journal_book.specs.Forms.{EndsAsTold};
 ghost use Rattle.journal_book.specs.Journal.{IsJournal};
 ghost use Rattle.journal_book.specs.View.{entries, seat_with};
 ghost use Rattle.journal_book.specs.Rows.{row, row_of, entries_of, counted_of, all_counted};
-ghost use Rattle.journal_book.specs.Standing.{IsAnswered, IsRefused, Notes, entry};
+ghost use Rattle.journal_book.specs.Standing.{HoldsBehind, IsAnswered, IsRefused, Notes, entry};
 
 use crate::beside::Beside;
 use crate::entry::Entry;
@@ -127,6 +127,7 @@ impl<L: Ledger> Book<L> {
         requires parts { (blank.parts ≡ L.parts) × (blank.parts ≡ 5000001) }
         ensures made { IfOk result (λ book.
             book ≡ record { config = config; journal = []; tenants = 0 }) }
+        ensures grounded { OnOk result ((g : Ground) × IsConfigured g config) }
         ensures fault { IfErr result (TellsFault config) }
     {
         let machine = Machine::new(alloc, &config)?;
@@ -143,10 +144,11 @@ impl<L: Ledger> Book<L> {
     }
 
     /// The journal of a book replays: its steps are accepted one behind another by a server of its
-    /// configuration, and answered so.
+    /// configuration, and answered so. There is such a server.
     pub fn replays(&self)
-        ensures { (g : Ground) → IsConfigured g self.now.config
+        ensures replays { (g : Ground) → IsConfigured g self.now.config
             → (w : World) × IsJournal g (opened_world g) (entries self.now.journal) w }
+        ensures grounded { (g : Ground) × IsConfigured g self.now.config }
     {
         let _ = &self.config;
     }
@@ -181,22 +183,21 @@ impl<L: Ledger> Book<L> {
         &self.journal
     }
 
-    /// The first actor of a tenant that has a form or a request to begin, if the tenant is open and
-    /// has one. It takes a step for each actor, and no memory.
+    /// The first of a tenant's sessions and its bare requests that has a form or a request to begin,
+    /// if the tenant is open and one has. It never names the actor of agents. It looks at each that
+    /// has something to do, and takes no memory.
     pub fn ready(&self, tenant: u64) -> Option<Actor>
-        ensures { (g : Ground) (w : World) → IsConfigured g self.now.config
-            → IsJournal g (opened_world g) (entries self.now.journal) w
-            → result ≡ option_and_then (λ it. ready it.quiet) (open_in tenant w) }
+        ensures { HoldsBehind self.now (λ _ w.
+            result ≡ option_and_then (λ it. ready it.quiet) (open_in tenant w)) }
     {
         self.machine.ready(tenant)
     }
 
     /// What has come of a tenant's stream, if the tenant is open. It takes no memory.
     pub fn wire(&self, tenant: u64) -> Option<Wire>
-        ensures { (g : Ground) (w : World) → IsConfigured g self.now.config
-            → IsJournal g (opened_world g) (entries self.now.journal) w
-            → result ≡ option_map (λ it. wire_at (g.readings.stream it.quiet.heard).ending)
-            (open_in tenant w) }
+        ensures { HoldsBehind self.now (λ g w. result
+            ≡ option_map (λ it. wire_at (g.readings.stream it.quiet.heard).ending)
+            (open_in tenant w)) }
     {
         Some(self.machine.tenant(tenant)?.wire())
     }
@@ -204,18 +205,15 @@ impl<L: Ledger> Book<L> {
     /// The text of the request that an actor of a tenant takes up next, if nothing of it is in hand
     /// and one waits.
     pub fn next_text(&self, tenant: u64, actor: Actor) -> Option<&str>
-        ensures { (g : Ground) (w : World) → IsConfigured g self.now.config
-            → IsJournal g (opened_world g) (entries self.now.journal) w
-            → option_copied result ≡ next_text_in actor (open_in tenant w) }
+        ensures { HoldsBehind self.now (λ _ w.
+            option_copied result ≡ next_text_in actor (open_in tenant w)) }
     {
         self.machine.tenant(tenant)?.next_text(actor)
     }
 
     /// Whether the value of the form that an actor of a tenant runs is told when the form ends.
     pub fn tells_value(&self, tenant: u64, actor: Actor) -> bool
-        ensures { (g : Ground) (w : World) → IsConfigured g self.now.config
-            → IsJournal g (opened_world g) (entries self.now.journal) w
-            → result ≡ tells_value_in actor (open_in tenant w) }
+        ensures { HoldsBehind self.now (λ _ w. result ≡ tells_value_in actor (open_in tenant w)) }
     {
         match self.machine.tenant(tenant) {
             Some(tenant) => tenant.tells_value(actor),

@@ -18,7 +18,11 @@ use Rattle.journal_book.specs.Standing.{IsAnswered, Notes, entry}
 use Rattle.journal_book.specs.View.{BookData, entries}
 use Rattle.tenant_asks.specs.Asking.{exchange_from, run_with}
 
--- a form that asks, and one that ends
+-- a form that begins, one that asks, and one that ends
+pub record BegunData : Type 0 where
+  pub actor : Actor
+  pub job : Job
+
 pub record QuestionData : Type 0 where
   pub actor : Actor
   pub ask : Ask

@@ -22,7 +22,7 @@ ghost use Rattle.knowing_book.specs.Keys.{entry_key, last_by};
 ghost use Rattle.knowing_book.specs.Knowledge.{Knows, Shares};
 ghost use Rattle.knowing_book.specs.View.{IsNoted};
 
-use crate::forms::{Begun, Fact, Finish, Question, Reply};
+use crate::forms::{Answered, Begun, Fact, Finish, Question};
 use crate::keys::{actor_key, step_key};
 use history::{Known, Lasts, Length, Naming, Opened};
 use journal_book::{Beside, Book, Entry, Places, Receipt, Seat};
@@ -195,7 +195,8 @@ impl<L: Ledger, N: Naming> KnowingBook<L, N> {
     ) -> Result<Option<Begun<N>>, Refusal>
         ensures noted { IfOk result (λ it. IsNoted self.old self.new
             (does seat.old.tenant (starts actor))
-            (λ answer. IfSome it (λ job. answer ≡ form_begun (job_view job)))) }
+            (λ answer. IfSome it (λ begun. (begun.actor ≡ actor)
+            × (answer ≡ form_begun (job_view begun.job))))) }
         ensures tenants { self.new.tenants ≡ self.old.tenants }
         ensures counted { OnOk result (seat.new ≡ seat_with seat.old.tenant (seat.old.made + 1)) }
         ensures refused { IfErr result (λ why. IsRefused self.old.config (entries self.old.journal)
@@ -213,7 +214,8 @@ impl<L: Ledger, N: Naming> KnowingBook<L, N> {
     fn begun(&self, tenant: u64, actor: Actor, answer: StepAnswer) -> Option<Begun<N>>
         requires { (before : List EntryData) × (entries self.now.journal ≡ before
             ++ entry (does tenant (starts actor)) (step_answer_view answer) ∷ []) }
-        ensures { IfSome result (λ job. step_answer_view answer ≡ form_begun (job_view job)) }
+        ensures { IfSome result (λ begun. (begun.actor ≡ actor)
+            × (step_answer_view answer ≡ form_begun (job_view begun.job))) }
     {
         match answer {
             StepAnswer::Begun(job) => {
@@ -231,7 +233,7 @@ impl<L: Ledger, N: Naming> KnowingBook<L, N> {
         seat: &mut Seat<L>,
         question: Question<N>,
         beside: &mut Beside,
-    ) -> Result<Option<Reply<N>>, Unasked<N>>
+    ) -> Result<Option<Answered<N>>, Unasked<N>>
         ensures noted { IfOk result (λ it. IsNoted self.old self.new
             (does seat.old.tenant (asks_for question.actor (ask_view question.ask)))
             (λ answer. IfSome it (λ told. answer ≡ ask_answered (answer_view told)))) }
@@ -253,7 +255,7 @@ impl<L: Ledger, N: Naming> KnowingBook<L, N> {
                     place: _,
                     answer: StepAnswer::Answer(told),
                 },
-            ) => Ok(Some(Reply {
+            ) => Ok(Some(Answered {
                 fact: self.later(fact, kept),
                 walk,
                 answer: told,

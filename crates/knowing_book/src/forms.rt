@@ -54,7 +54,7 @@ impl<N: Naming> Fact<N> {
     }
 }
 
-/// A form that began. Contracts see its job.
+/// A form that began. Contracts see its actor and its job.
 #[derive(Drop)]
 pub struct Begun<N: Naming> {
     pub(crate) fact: Fact<N>,
@@ -64,15 +64,15 @@ pub struct Begun<N: Naming> {
 impl<N: Naming> Model for Begun<N> {
     ghost use Rattle.std.specs.Coded.{codes};
     ghost use Rattle.repl_asks.specs.contracts.job.Job as jobs;
-    ghost use Rattle.repl_asks.specs.declared.job.Job.{Job};
+    ghost use Rattle.server_rules.specs.contracts.actor.Actor as actors;
     ghost use Rattle.knowing_book.specs.Knowledge.{Knows};
-    ghost use Rattle.knowing_book.specs.View.{begun_run};
+    ghost use Rattle.knowing_book.specs.View.{BegunData, begun_run};
 
-    ghost Value = { Job };
+    ghost Value = { BegunData };
 
-    ghost coded = { Prim.hlevel (codes, jobs.the_row.coded) };
+    ghost coded = { Prim.hlevel (codes, jobs.the_row.coded, actors.the_row.coded) };
 
-    ghost view = { λ b. b.job };
+    ghost view = { λ b. record { actor = b.fact.actor; job = b.job } };
 
     ghost invariant = { λ b. Knows b.fact.known b.fact.tenant b.fact.actor b.fact.last
         (begun_run b.job) };
@@ -107,13 +107,13 @@ impl<N: Naming> Model for Question<N> {
 
 /// A form with the answer to its ask. Contracts see the answer.
 #[derive(Drop)]
-pub struct Reply<N: Naming> {
+pub struct Answered<N: Naming> {
     pub(crate) fact: Fact<N>,
     pub(crate) walk: Walk,
     pub(crate) answer: Answer,
 }
 
-impl<N: Naming> Model for Reply<N> {
+impl<N: Naming> Model for Answered<N> {
     ghost use Rattle.std.specs.Coded.{codes};
     ghost use Rattle.repl_asks.specs.contracts.answer.Answer as answers;
     ghost use Rattle.repl_asks.specs.declared.answer.Answer.{Answer};
@@ -170,7 +170,9 @@ pub enum Stage<N: Naming> {
 
 impl<N: Naming> Begun<N> {
     /// Whose form it is.
-    pub fn actor(&self) -> Actor {
+    pub fn actor(&self) -> Actor
+        ensures { result ≡ self.now.actor }
+    {
         self.fact.actor
     }
 
@@ -184,20 +186,24 @@ impl<N: Naming> Begun<N> {
 
 impl<N: Naming> Question<N> {
     /// Whose form it is.
-    pub fn actor(&self) -> Actor {
+    pub fn actor(&self) -> Actor
+        ensures { result ≡ self.now.actor }
+    {
         self.fact.actor
     }
 
     /// What it asks.
-    pub fn ask(&self) -> &Ask {
+    pub fn ask(&self) -> &Ask
+        ensures { result.now ≡ self.now.ask }
+    {
         &self.ask
     }
 }
 
-impl<N: Naming> Reply<N> {
+impl<N: Naming> Answered<N> {
     /// Goes on with the answer, up to the next ask or the end. It fails only for want of memory.
     pub fn resume(self, alloc: Global) -> Result<Stage<N>, AllocError> {
-        let Reply { fact, walk, answer } = self;
+        let Answered { fact, walk, answer } = self;
         let progress = walk.resume(alloc, answer)?;
         reach(alloc, fact, progress)
     }
@@ -205,7 +211,9 @@ impl<N: Naming> Reply<N> {
 
 impl<N: Naming> Finish<N> {
     /// Whose form it is.
-    pub fn actor(&self) -> Actor {
+    pub fn actor(&self) -> Actor
+        ensures { result ≡ self.now.actor }
+    {
         self.fact.actor
     }
 

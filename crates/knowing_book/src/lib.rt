@@ -6,5 +6,5 @@ mod forms;
 mod keys;
 
 pub use book::{KnowingBook, Unasked, Unended};
-pub use forms::{Begun, Finish, Question, Reply, Stage};
+pub use forms::{Answered, Begun, Finish, Question, Stage};
 pub use history::{Naming, Opened};

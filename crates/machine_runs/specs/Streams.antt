@@ -1,5 +1,5 @@
 -- What one stream comes to, served by a server that was just made.
-use Rattle.std.specs.Prelude.{◌≡◌, ℕ, Bool, List, Option, Result, Err}
+use Rattle.std.specs.Prelude.{◌≡◌, ⊤, ℕ, Bool, List, Option, Result, Err}
 use Rattle.repl_values.specs.Failure.{Failure}
 use Rattle.repl_values.specs.declared.fault.Fault.{Fault}
 use Rattle.server_rules.specs.Ground.{Ground}
@@ -32,6 +32,13 @@ pub record Output : Type 0 where
 abbrev pub output : Option (List ℕ) → Option (List ℕ) → Option Bool → Output
 output contents passed failed = record { contents = contents; passed = passed; failed = failed }
 
+-- there is something on which such a server stands, so its text has no fault; unless the end tells
+-- of a fault or of refused memory
+abbrev pub IsGrounded : Config → Result PipeEnd PipeError → Type 0
+IsGrounded config (Err (PipeError.SharedText fault)) = ⊤
+IsGrounded config (Err PipeError.NoMemory) = ⊤
+IsGrounded config outcome = (g : Ground) × IsConfigured g config
+
 pub record ServesStream (config : Config) (read_from left : Input) (before behind : Output)
     (outcome : Result PipeEnd PipeError) : Type 0 where
   -- what is written is what the schedule serves
@@ -47,3 +54,8 @@ pub record ServesStream (config : Config) (read_from left : Input) (before behin
   pub told : TellsFailures read_from.failed left.failed before.failed behind.failed outcome
   pub fault : (fault : Fault) → outcome ≡ Err (PipeError.SharedText fault)
       → (failure : Failure) × TextFaults config failure
+  -- where a text has a fault the end tells that, or that memory was refused, and nothing was read or
+  -- written
+  pub grounded : IsGrounded config outcome
+  pub unserved : ((g : Ground) → ¬ IsConfigured g config)
+      → (left ≡ read_from) × (behind ≡ before)

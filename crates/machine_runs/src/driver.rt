@@ -30,6 +30,7 @@ impl Driver {
     pub(crate) fn new(alloc: Global, config: &Config) -> Result<Driver, LoadError>
         ensures stands { (g : Ground) → IsConfigured g config.now
             → IfOk result (λ made. DriverStands g made (opened_world g)) }
+        ensures grounded { OnOk result ((g : Ground) × IsConfigured g config.now) }
         ensures fault { IfErr result (TellsFault config.now) }
     {
         let machine = Machine::new(alloc, config)?;

@@ -27,6 +27,7 @@ pub fn drive(alloc: Global, config: Config, turns: &[Turn]) -> Result<Outputs, L
     ensures alone { (g : Ground) → IsConfigured g config → IfOk result
         (IsServedAlone g (opened_world g) (map turn_view turns.now)) }
     ensures attempts { (g : Ground) → AgreesWithAnyRun g (map turn_view turns.now) }
+    ensures grounded { OnOk result ((g : Ground) × IsConfigured g config) }
     ensures fault { IfErr result (TellsFault config) }
 {
     let mut driver = Driver::new(alloc, &config)?;

@@ -1,5 +1,5 @@
 // The turns of a tenant that is served alone.
-ghost use Rattle.std.specs.Prelude.{◌≡◌, IfOk, IfErr};
+ghost use Rattle.std.specs.Prelude.{◌≡◌, IfOk, IfErr, OnOk};
 ghost use Rattle.server_rules.specs.Ground.{Ground};
 ghost use Rattle.server_rules.specs.LoneTurns.{opened_lone};
 ghost use Rattle.repl_core.specs.Configured.{IsConfigured};
@@ -18,6 +18,7 @@ impl Runner {
     pub fn new(alloc: Global, config: &Config) -> Result<Runner, LoadError>
         ensures stands { (g : Ground) → IsConfigured g config.now
             → IfOk result (λ made. RunnerStands g made (opened_lone g)) }
+        ensures grounded { OnOk result ((g : Ground) × IsConfigured g config.now) }
         ensures fault { IfErr result (TellsFault config.now) }
     {
         let walks = Walks::new(alloc);

@@ -11,7 +11,7 @@ ghost use Rattle.nrepl_pipe.specs.declared.ends.PipeError.{PipeError};
 ghost use Rattle.repl_core.specs.Configured.{IsConfigured, TextFaults};
 ghost use Rattle.repl_values.specs.Inside.FaultView.{failure_of};
 ghost use Rattle.repl_values.specs.declared.fault.Fault.{Fault};
-ghost use Rattle.machine_runs.specs.Streams.{input, output, ServesStream};
+ghost use Rattle.machine_runs.specs.Streams.{input, output, IsGrounded, ServesStream};
 
 use crate::runner::Runner;
 use nrepl_pipe::{PipeEnd, PipeError, Sink, Source, exit_status, serve_stream};
@@ -49,6 +49,12 @@ pub fn pipe<R: Source, W: Sink>(
         (W.failed writer.old) (W.failed writer.new) result }
     ensures fault { (fault : Fault) → result ≡ Err (PipeError.SharedText fault)
         → TextFaults config (failure_of fault) }
+    ensures grounded { IsGrounded config result }
+    ensures unserved { ((g : Ground) → ¬ IsConfigured g config)
+        → (input (R.remaining reader.new) (R.failed reader.new) (R.reads reader.new)
+        ≡ input (R.remaining reader.old) (R.failed reader.old) (R.reads reader.old))
+        × (output (W.contents writer.new) (W.passed writer.new) (W.failed writer.new)
+        ≡ output (W.contents writer.old) (W.passed writer.old) (W.failed writer.old)) }
 {
     match Runner::new(alloc, &config) {
         Ok(mut runner) => serve_stream(alloc, &mut runner, reader, writer),

@@ -12,5 +12,7 @@ returns g c =
         passed = did.passed;
         told = did.told;
         fault = λ fault is. (failure_of fault, did.fault fault is);
+        grounded = did.grounded;
+        unserved = did.unserved;
       },
     )
