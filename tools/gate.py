@@ -1,8 +1,8 @@
 #!/usr/bin/env python3
 """The merge gate, started by .ci/run.
 
-    .ci/run                 `rt ci` over a copy of the tree: every proof from nothing, every test,
-                            every program; then the cases of cases/ on these programs, and the tests
+    .ci/run                 `rt ci` over a copy of the tree: every proof, but for what the kit kept
+                            of an earlier run on the machine, every test, every program; then the cases of cases/ on these programs, and the tests
                             over sockets on the server. Of the must-fail edits it tries those that
                             the record does not cover, at most 100 and where the kit can be stopped
                             for at most 40 minutes of all processors, and names those that are left

@@ -14,12 +14,12 @@ from sockets import Connection
 SECONDS = 300
 # So many evals on a connection: each tenant has a limit on its steps.
 EVALS = 100
-# A vector of 983,040 integers, by a text of 15,360 that is doubled, and a text of 1 MB.
+# A map with 64 times the same vector of 15,360 integers, 983,040 in all, and a text of 1 MB.
 SMALL = "(def s [" + "7 " * 15_360 + "])"
 DOUBLED = "(def big (hash-map " + " ".join(f":k{n} s" for n in range(64)) + "))"
 LONG = "(def t \"" + "x" * 1_000_000 + "\")"
 KINDS = {
-    # each names a value of the greatest weight 300 times
+    # each names a value of some 983,000 items 300 times
     "values": "[" + "(count big) " * 300 + "]",
     "texts": "(count \"" + "x" * 1_000_000 + "\")",
     "prints": "t",

@@ -9,11 +9,11 @@
     tools/load.py --idle COMMAND     the same for one that answers 3 to whatever it is asked: it
                                      shows what sockets and the load allow, and is asked for no ref
 
-    tools/load.py --heavy            no table, but how 15 connections fare alone and beside one with
-                                     evals that take long (heavy.py), for the built program
+    tools/load.py --heavy            another table: how 15 connections fare alone and beside one
+                                     with evals that take long (heavy.py); stands first
 
 These may stand more than once; the servers are measured one after another.
-`--evals N` makes N evals in a row of the table, 10,000 unless given. load.c, which gcc compiles
+`--evals N` makes N evals in a row of the table, 10,000 unless given; the second row has 200. load.c, which gcc compiles
 here, makes the load. It compares each reply with the bytes that it has to have, and ends at the
 first that is another; then the status is 1.
 

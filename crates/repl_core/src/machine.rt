@@ -140,8 +140,9 @@ impl Machine {
         self.tenants.get(number)
     }
 
-    /// The first actor of a tenant that has a form or a request to begin, if the tenant is open and
-    /// has one. It takes a step for each that has something to do, and no memory.
+    /// The first of a tenant's sessions and its bare requests that has a form or a request to begin,
+    /// if the tenant is open and one has. It never names the actor of agents. It looks at each that
+    /// has something to do, and takes no memory.
     pub fn ready(&self, number: u64) -> Option<Actor>
         ensures { (g : Ground) (w : World) → MachineStands g self.now w
             → result ≡ option_and_then (λ it. ready it.quiet) (open_in number w) }

@@ -27,7 +27,7 @@ pub enum Wire {
 /// A tenant that is served alone, a turn at a time. A piece, and what an actor does, each use up a
 /// step.
 ///
-/// What each turn does stands in `specs/Turns.antt`. A turn that was accepted leaves the tenant as
+/// What each turn does stands in `specs/LoneTurns.antt`. A turn that was accepted leaves the tenant as
 /// it is after the step. A turn that was refused, other than for want of memory, is one that the
 /// step refuses so, and leaves the tenant as it was.
 pub trait Core {
