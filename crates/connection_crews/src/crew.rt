@@ -11,7 +11,7 @@ use crate::reading::read_away;
 use crate::working::{serve_actions, serve_requests};
 use crate::writing::write_what_waits;
 use connection_queue::{Takings, Ticket, take};
-use journal_book::{Places, Seat};
+use journal_book::{Places, SEATS, Seat};
 use knowing_book::{KnowingBook, Naming};
 use std::alloc::Global;
 use std::net::TcpStream;
@@ -19,9 +19,6 @@ use std::sync::ledger::Ledger;
 use std::sync::{Arc, Mutex, Wait};
 use std::thread;
 use std::thread::Threads;
-
-// How many seats a tenant gets.
-const SEATS: usize = 5;
 
 /// Serves connections: for each one three threads that read and evaluate by turns, a runner of
 /// actions and a writer.
@@ -68,7 +65,7 @@ impl<L: Ledger + Send + Sync, N: Naming + Send + Sync, G: Gate + Drop + Send + S
         stream: &TcpStream,
         seats: &mut Vec<Seat<L>>,
     ) {
-        if seats.reserve(SEATS).is_err() {
+        if seats.reserve(SEATS as usize).is_err() {
             return;
         }
         let Ok(places) = locked(rt, &*self.book).admit() else {
@@ -115,7 +112,7 @@ impl<L: Ledger + Send + Sync, N: Naming + Send + Sync, G: Gate + Drop + Send + S
                 )
             },
         );
-        bid_farewell(rt, &*self.book, &mut reader);
+        bid_farewell(rt, self.alloc, &*self.book, &mut reader);
         if desk.is_broken(rt) {
             read_away(stream);
         }

@@ -251,10 +251,26 @@ impl<'a, L: Ledger, N: Naming, G: Gate> Connection<'a, L, N, G> {
     pub(crate) fn ask<R: Wait>(&self, rt: &R, seat: &mut Seat<L>, question: Question<N>) -> Told<N>
         ensures { seat.new.tenant ≡ seat.old.tenant }
     {
-        let wakes = may_wake_agents(question.ask());
         let mut beside = Beside::nothing();
+        let told = self.ask_under_lock(rt, seat, question, &mut beside);
+        if matches!(told, Told::Interrupted(_)) {
+            beside.free(self.alloc);
+        }
+        told
+    }
+
+    fn ask_under_lock<R: Wait>(
+        &self,
+        rt: &R,
+        seat: &mut Seat<L>,
+        question: Question<N>,
+        beside: &mut Beside,
+    ) -> Told<N>
+        ensures { seat.new.tenant ≡ seat.old.tenant }
+    {
+        let wakes = may_wake_agents(question.ask());
         let mut book = locked(rt, self.book);
-        match book.ask(seat, question, &mut beside) {
+        match book.ask(seat, question, beside) {
             Ok(Some(answered)) => {
                 if wakes {
                     self.desk.wake_agents(rt);
@@ -281,10 +297,24 @@ impl<'a, L: Ledger, N: Naming, G: Gate> Connection<'a, L, N, G> {
     ) -> Ended<N>
         ensures { seat.new.tenant ≡ seat.old.tenant }
     {
-        let actor = finish.actor();
         let mut beside = Beside::nothing();
+        let ended = self.end_under_lock(rt, seat, finish, &mut beside);
+        beside.free(self.alloc);
+        ended
+    }
+
+    fn end_under_lock<R: Wait>(
+        &self,
+        rt: &R,
+        seat: &mut Seat<L>,
+        finish: Finish<N>,
+        beside: &mut Beside,
+    ) -> Ended<N>
+        ensures { seat.new.tenant ≡ seat.old.tenant }
+    {
+        let actor = finish.actor();
         let mut book = locked(rt, self.book);
-        match book.end(seat, finish, &mut beside) {
+        match book.end(seat, finish, beside) {
             Ok(_) => {
                 let replies = self.replies(rt, &mut *book, seat);
                 if actor == Actor::Agents {
@@ -367,6 +397,7 @@ pub(crate) fn locked<'b, L: Ledger, N: Naming, R: Wait>(
 /// The tenant goes.
 pub(crate) fn bid_farewell<L: Ledger, N: Naming, R: Wait>(
     rt: &R,
+    alloc: Global,
     book: &Mutex<KnowingBook<L, N>>,
     seat: &mut Seat<L>,
 )
@@ -374,6 +405,7 @@ pub(crate) fn bid_farewell<L: Ledger, N: Naming, R: Wait>(
 {
     let mut beside = Beside::nothing();
     let _is_gone = locked(rt, book).leave(seat, &mut beside).is_ok();
+    beside.free(alloc);
 }
 
 // Whether a text was read of this actor, and of so many bytes.

@@ -13,7 +13,7 @@ use std::sync::ledger::Ledger;
 use std::time::Duration;
 
 // The greatest length of a piece. All its messages are taken within one act.
-const PIECE: usize = 4_096;
+const PIECE: usize = 2_048;
 
 // How many milliseconds a read waits for more of a stream that has a fault, and how many such reads
 // are made.

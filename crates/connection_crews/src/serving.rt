@@ -21,7 +21,7 @@ use std::thread::{JoinHandle, Threads};
 use std::{io, thread};
 
 // How many connections wait in the queue for a crew.
-const ROOM: usize = 16;
+const MOST_WAITING: usize = 16;
 
 /// How many connections are served in all, and how many at a time.
 #[derive(Clone, Copy, Debug)]
@@ -120,7 +120,7 @@ fn served<
     listener: &TcpListener,
     options: Options,
 ) -> Result<Vec<Seat<L>>, ServeError> {
-    let (feed, from, mut own) = queue(alloc, ROOM)?;
+    let (feed, from, mut own) = queue(alloc, MOST_WAITING)?;
     let mut running = Vec::new(alloc);
     for _i in 0..options.crews {
         let crew = Crew {

@@ -5,7 +5,7 @@ use Rattle.value_data.specs.Inside.View.{view}
 use Rattle.value_data.specs.declared.value.Value.{Value}
 use Rattle.value_data.proofs.Views.{value_views}
 use Rattle.repl_values.specs.Failure.{Failure}
-use Rattle.core_items.proofs.Lists.{lists}
+use Rattle.repl_values.proofs.Lists.{lists}
 use Rattle.core_collections.specs.MapArguments.{by_turns, left_alone}
 
 -- two arguments more

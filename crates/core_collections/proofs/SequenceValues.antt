@@ -9,9 +9,9 @@ use Rattle.value_data.proofs.Views.{value_views}
 use Rattle.repl_values.specs.Failure.{Failure}
 use Rattle.value_data.specs.Inside.Ends.{with_last, behind_first}
 use Rattle.value_data.specs.Listed.{listed}
-use Rattle.core_items.specs.Arguments.{at_index}
-use Rattle.core_items.specs.Making.{vector_of, list_or_nil}
-use Rattle.core_items.proofs.Lists.{lists, of-listed}
+use Rattle.repl_values.specs.Arguments.{at_index}
+use Rattle.repl_values.specs.Making.{vector_of, list_or_nil}
+use Rattle.repl_values.proofs.Lists.{lists, of-listed}
 use Rattle.core_collections.specs.Pairs.{as_pair}
 
 pub as_pair-two : (ds : Items) (k v : Datum) → length (listed ds) ≡ 2 → k ≡ get_or (listed ds) 0 k → v ≡ get_or (listed ds) 1 v

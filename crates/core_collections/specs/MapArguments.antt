@@ -2,7 +2,7 @@
 use Rattle.std.specs.Prelude.{ℕ, ℤ, List, [], ◌∷◌, Option, Some, None, Result, Ok, Err}
 use Rattle.value_data.specs.Datum.{Datum, nil, map, Pairs, no_pairs}
 use Rattle.repl_values.specs.Failure.{Failure, ◌>>=◌, wrong_argument}
-use Rattle.core_items.specs.Arguments.{integer_in}
+use Rattle.repl_values.specs.Arguments.{integer_in}
 
 -- keys and their values by turns; a last one alone is left out
 abbrev pub by_turns : List Datum → List (Datum × Datum)

@@ -9,8 +9,8 @@ use Rattle.value_data.specs.Keyed.{value_under}
 use Rattle.value_data.specs.Put.{put_pairs, without_keys}
 use Rattle.repl_values.specs.Failure.{Failure, ◌>>=◌, wrong_argument, out_of_bounds}
 use Rattle.repl_values.specs.Failure.{no_value_supplied}
-use Rattle.core_items.specs.Arguments.{argument, at_index}
-use Rattle.core_items.specs.Making.{list_or_nil}
+use Rattle.repl_values.specs.Arguments.{argument, at_index}
+use Rattle.repl_values.specs.Making.{list_or_nil}
 use Rattle.core_collections.specs.MapNames.{name_of_map_function}
 use Rattle.core_collections.specs.MapArguments.{by_turns, left_alone, map_pairs_in, places_in}
 use Rattle.core_collections.specs.declared.map_function.MapFunction.{MapFunction}

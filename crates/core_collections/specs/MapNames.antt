@@ -1,7 +1,7 @@
 -- The functions, each with its name and the numbers of arguments that it takes.
 use Rattle.std.specs.Prelude.{ℕ, List, [], ◌∷◌, Bool, Option, codes}
-use Rattle.core_items.specs.FunctionRows.{Row, takes, first_named}
-use Rattle.core_items.specs.declared.function_row.Arity.{Arity}
+use Rattle.repl_values.specs.FunctionRows.{Row, takes, first_named}
+use Rattle.repl_values.specs.declared.function_row.Arity.{Arity}
 use Rattle.core_collections.specs.declared.map_function.MapFunction.{MapFunction}
 
 abbrev pub map_row : MapFunction → Row

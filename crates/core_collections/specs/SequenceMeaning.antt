@@ -6,9 +6,9 @@ use Rattle.value_data.specs.Datum.{Datum, nil, boolean, integer, string, list, v
 use Rattle.value_data.specs.Listed.{listed}
 use Rattle.value_data.specs.Put.{put_pairs}
 use Rattle.repl_values.specs.Failure.{Failure, ◌>>=◌, wrong_argument, out_of_bounds}
-use Rattle.core_items.specs.Arguments.{argument, integer_in, item_or_nil, at_index}
-use Rattle.core_items.specs.Items.{items_in, row_in}
-use Rattle.core_items.specs.Making.{list_of, vector_of, list_or_nil}
+use Rattle.repl_values.specs.Arguments.{argument, integer_in, item_or_nil, at_index}
+use Rattle.repl_values.specs.Items.{items_in, row_in}
+use Rattle.repl_values.specs.Making.{list_of, vector_of, list_or_nil}
 use Rattle.core_collections.specs.SequenceNames.{name_of_sequence_function}
 use Rattle.core_collections.specs.Pairs.{pairs_in}
 use Rattle.core_collections.specs.declared.sequence_function.SequenceFunction.{SequenceFunction}

@@ -8,8 +8,7 @@ ghost use Rattle.value_data.specs.Inside.Seen.{entry_view};
 ghost use Rattle.core_collections.specs.MapArguments as meant;
 ghost use Rattle.core_collections.specs.Inside.View.{indexed_view};
 
-use core_items::integer_of;
-use repl_values::{ApplyError, Value};
+use repl_values::{ApplyError, Value, integer_of};
 use std::alloc::{AllocError, Global};
 
 // Keys and their values by turns, and the last of an odd number.

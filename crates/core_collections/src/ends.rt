@@ -8,8 +8,7 @@ ghost use Rattle.repl_values.specs.Inside.FaultView.{Gives};
 ghost use Rattle.core_collections.specs.SequenceMeaning as meant;
 
 use crate::sequence_function::SequenceFunction;
-use core_items::{ItemRow, list_of};
-use repl_values::{ApplyError, Sequence, Value};
+use repl_values::{ApplyError, ItemRow, Sequence, Value, list_of};
 use std::alloc::Global;
 
 #[tactic(auto, using(crate::proofs::SequenceValues::seen), unfolding(crate::specs::SequenceMeaning::first))]

@@ -11,8 +11,9 @@ ghost use Rattle.core_collections.specs.Pairs.{as_pair, pair_in, pairs_in};
 ghost use Rattle.core_collections.specs.SequenceMeaning as meant;
 
 use crate::sequence_function::SequenceFunction;
-use core_items::{ItemRow, list_or_nil};
-use repl_values::{ApplyError, Sequence, Value, copy, copy_items, wrong_argument};
+use repl_values::{
+    ApplyError, ItemRow, Sequence, Value, copy, copy_items, list_or_nil, wrong_argument,
+};
 use std::alloc::{AllocError, Global};
 
 #[tactic(auto, using(crate::proofs::SequenceValues::seen), unfolding(crate::specs::SequenceMeaning::cons))]

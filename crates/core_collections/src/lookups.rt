@@ -7,8 +7,7 @@ ghost use Rattle.repl_values.specs.Inside.FaultView.{Gives};
 ghost use Rattle.core_collections.specs.MapMeaning as meant;
 
 use crate::map_function::MapFunction;
-use core_items::at_index;
-use repl_values::{ApplyError, Sequence, Value, copy, wrong_argument};
+use repl_values::{ApplyError, Sequence, Value, at_index, copy, wrong_argument};
 use std::alloc::Global;
 
 #[tactic(auto, using(crate::proofs::MapValues::seen), unfolding(crate::specs::MapMeaning::get))]

@@ -9,8 +9,7 @@ ghost use Rattle.core_collections.specs.MapMeaning as meant;
 
 use crate::arguments::by_turns;
 use crate::map_function::MapFunction;
-use core_items::list_or_nil;
-use repl_values::{ApplyError, Table, Value, copy, no_value_supplied, wrong_argument};
+use repl_values::{ApplyError, Table, Value, copy, list_or_nil, no_value_supplied, wrong_argument};
 use std::alloc::{AllocError, Global};
 
 #[tactic(auto, using(crate::proofs::MapValues::seen), unfolding(crate::specs::MapMeaning::hash_map))]

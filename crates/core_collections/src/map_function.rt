@@ -3,7 +3,7 @@ ghost use Rattle.std.specs.Prelude.{◌≡◌, Some};
 ghost use Rattle.core_collections.specs.MapNames.{map_row, map_functions, map_function_named};
 ghost use Rattle.core_collections.specs.MapNames.{name_of_map_function, fits_map_function};
 
-use core_items::{Arity, FunctionRow, HasRow, first_named};
+use repl_values::{Arity, FunctionRow, HasRow, first_named};
 
 /// A function of maps. `Get`, `Contains` and `Assoc` take vectors too.
 #[derive(Clone, Copy, Debug, PartialEq, Eq)]

@@ -4,13 +4,14 @@
 ghost use Rattle.std.specs.Prelude.{◌≡◌, ◌<◌, ◌^◌, length, option_map, chars, IfOk};
 ghost use Rattle.value_data.specs.Inside.View.{view};
 ghost use Rattle.repl_values.specs.Inside.FaultView.{Gives};
-ghost use Rattle.core_items.specs.Arguments.{at_index};
-ghost use Rattle.core_items.specs.Inside.View.{listed_in};
+ghost use Rattle.repl_values.specs.Arguments.{at_index};
+ghost use Rattle.repl_values.specs.Inside.Rows.{listed_in};
 ghost use Rattle.core_collections.specs.SequenceMeaning as meant;
 
 use crate::sequence_function::SequenceFunction;
-use core_items::{ItemRow, at_index, integer_of, row_of};
-use repl_values::{ApplyError, Sequence, Value, copy, out_of_bounds};
+use repl_values::{
+    ApplyError, ItemRow, Sequence, Value, at_index, copy, integer_of, out_of_bounds, row_of,
+};
 use std::alloc::Global;
 
 #[tactic(auto, using(crate::proofs::SequenceValues::seen), unfolding(crate::specs::SequenceMeaning::count))]

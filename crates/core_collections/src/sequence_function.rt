@@ -5,7 +5,7 @@ ghost use Rattle.core_collections.specs.SequenceNames.{sequence_function_named};
 ghost use Rattle.core_collections.specs.SequenceNames.{name_of_sequence_function};
 ghost use Rattle.core_collections.specs.SequenceNames.{fits_sequence_function};
 
-use core_items::{Arity, FunctionRow, HasRow, first_named};
+use repl_values::{Arity, FunctionRow, HasRow, first_named};
 
 /// A function that makes a sequence or goes by the items of one.
 #[derive(Clone, Copy, Debug, PartialEq, Eq)]

@@ -9,8 +9,7 @@ use crate::ends::{first, last, next, rest, reversed_list};
 use crate::joins::{conj, cons};
 use crate::places::{count, is_empty, nth};
 use crate::sequence_function::SequenceFunction;
-use core_items::{list_of, vector_of};
-use repl_values::{ApplyError, Value, copy_items};
+use repl_values::{ApplyError, Value, copy_items, list_of, vector_of};
 use std::alloc::Global;
 
 /// The function's value at as many arguments as it takes. All arguments' kinds are checked from the

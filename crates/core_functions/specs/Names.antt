@@ -1,6 +1,6 @@
 -- The functions that need no store, group by group: each has its row in the table of its group.
 use Rattle.std.specs.Prelude.{ℕ, List, Bool, Option, Some, None}
-use Rattle.core_items.specs.FunctionRows.{Row, takes}
+use Rattle.repl_values.specs.FunctionRows.{Row, takes}
 use Rattle.core_scalars.specs.IntegerNames.{integer_row, integer_function_named}
 use Rattle.core_scalars.specs.PredicateNames.{predicate_row, predicate_function_named}
 use Rattle.core_scalars.specs.TextNames.{text_row, text_function_named, print_row}

@@ -1,8 +1,8 @@
 -- The functions that ask the store, each with its name and the numbers of arguments that it takes
 -- (the Clojure reference, Refs and Transactions, Atoms, and Agents).
 use Rattle.std.specs.Prelude.{ℕ, List, [], ◌∷◌, Bool, Option, codes}
-use Rattle.core_items.specs.FunctionRows.{Row, takes, first_named}
-use Rattle.core_items.specs.declared.function_row.Arity.{Arity}
+use Rattle.repl_values.specs.FunctionRows.{Row, takes, first_named}
+use Rattle.repl_values.specs.declared.function_row.Arity.{Arity}
 use Rattle.core_functions.specs.declared.store.StoreFunction.{StoreFunction}
 
 -- `ref` takes a value, and behind it one or both bounds of the history, each behind its keyword

@@ -1,12 +1,12 @@
 // Which functions there are, and how many arguments each takes.
 ghost use Rattle.std.specs.Prelude.{◌≡◌, Some, false, is_some};
 ghost use Rattle.std.specs.Option.{option_map_or};
-ghost use Rattle.core_items.specs.Inside.RowView.{function_row_view};
+ghost use Rattle.repl_values.specs.Inside.RowView.{function_row_view};
 ghost use Rattle.core_functions.specs.Names.{function_named, core_row, name_of, fits};
 
 use core_collections::{MapFunction, SequenceFunction};
-use core_items::{FunctionRow, HasRow};
 use core_scalars::{IntegerFunction, PredicateFunction, PrintFunction, TextFunction};
+use repl_values::{FunctionRow, HasRow};
 
 /// A function of the language that needs no store, by its group.
 #[derive(Clone, Copy, Debug, PartialEq, Eq)]

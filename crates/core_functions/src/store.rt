@@ -1,11 +1,11 @@
 // Which functions ask the store, and how many arguments each takes.
 ghost use Rattle.std.specs.Prelude.{◌≡◌, Some, None};
-ghost use Rattle.core_items.specs.Inside.RowView.{function_row_view};
+ghost use Rattle.repl_values.specs.Inside.RowView.{function_row_view};
 ghost use Rattle.core_functions.specs.Names.{function_named};
 ghost use Rattle.core_functions.specs.StoreNames.{store_row, store_functions};
 ghost use Rattle.core_functions.specs.StoreNames.{store_function_named, store_name_of, store_fits};
 
-use core_items::{Arity, FunctionRow, HasRow, first_named};
+use repl_values::{Arity, FunctionRow, HasRow, first_named};
 
 /// A function of the language that asks the store.
 #[derive(Clone, Copy, Debug, PartialEq, Eq)]

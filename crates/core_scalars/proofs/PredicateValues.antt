@@ -5,7 +5,7 @@ use Rattle.value_data.specs.Inside.View.{view}
 use Rattle.value_data.specs.Same.{same}
 use Rattle.value_data.specs.declared.value.Value.{Value}
 use Rattle.value_data.proofs.Views.{value_views}
-use Rattle.core_items.specs.Arguments.{neighbours}
+use Rattle.repl_values.specs.Arguments.{neighbours}
 use Rattle.core_scalars.specs.PredicateMeaning.{each_equals_the_next}
 
 list_all-zip : (xs ys : List Value) → list_all (λ p. same p.0 p.1) (zip (map view xs) (map view ys)) ≡ list_all (λ p. same (view p.0) (view p.1)) (zip xs ys)

@@ -1,7 +1,7 @@
 -- Comparisons of neighbours, and tests of one integer.
 use Rattle.std.specs.Prelude.{ℤ, pos, int_lt, int_le, int_rem, Bool, not, List}
 use Rattle.std.specs.List.{list_all}
-use Rattle.core_items.specs.Arguments.{neighbours}
+use Rattle.repl_values.specs.Arguments.{neighbours}
 use Rattle.core_scalars.specs.Arithmetic.{is_zero}
 use Rattle.core_scalars.specs.declared.integer_function.ComparisonFunction.{ComparisonFunction}
 use Rattle.core_scalars.specs.declared.integer_function.IntegerTest.{IntegerTest}

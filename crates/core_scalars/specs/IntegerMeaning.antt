@@ -3,7 +3,7 @@
 use Rattle.std.specs.Prelude.{ℕ, ℤ, List, [], ◌∷◌, Result, Ok}
 use Rattle.value_data.specs.Datum.{Datum, boolean, integer}
 use Rattle.repl_values.specs.Failure.{Failure, ◌>>=◌}
-use Rattle.core_items.specs.Arguments.{integer_in}
+use Rattle.repl_values.specs.Arguments.{integer_in}
 use Rattle.core_scalars.specs.IntegerNames.{name_of_integer_function}
 use Rattle.core_scalars.specs.Arithmetic.{arithmetic, first_integer}
 use Rattle.core_scalars.specs.Comparison.{is_ordered, passes_integer_test}

@@ -4,7 +4,7 @@ use Rattle.std.specs.List.{list_all}
 use Rattle.value_data.specs.Datum.{Datum, boolean}
 use Rattle.value_data.specs.Same.{same}
 use Rattle.repl_values.specs.Failure.{Failure}
-use Rattle.core_items.specs.Arguments.{argument, neighbours}
+use Rattle.repl_values.specs.Arguments.{argument, neighbours}
 use Rattle.core_scalars.specs.Kinds.{passes_value_test}
 use Rattle.core_scalars.specs.declared.predicate_function.PredicateFunction.{PredicateFunction}
 

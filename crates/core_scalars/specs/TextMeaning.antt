@@ -8,7 +8,7 @@ use Rattle.value_data.specs.Datum.{Datum, nil, string, keyword, symbol}
 use Rattle.repl_values.specs.Print.{print}
 use Rattle.repl_values.specs.Slash.{is_slash}
 use Rattle.repl_values.specs.Failure.{Failure, ◌>>=◌, wrong_argument}
-use Rattle.core_items.specs.Arguments.{argument}
+use Rattle.repl_values.specs.Arguments.{argument}
 use Rattle.core_scalars.specs.Printing.{spaced_text}
 use Rattle.core_scalars.specs.declared.text_function.TextFunction.{TextFunction}
 

@@ -1,13 +1,13 @@
 // Which functions there are, and how many arguments each takes.
 ghost use Rattle.std.specs.Prelude.{◌≡◌, Some};
-ghost use Rattle.core_items.specs.Inside.RowView.{function_row_view};
+ghost use Rattle.repl_values.specs.Inside.RowView.{function_row_view};
 ghost use Rattle.core_scalars.specs.IntegerNames.{arithmetic_row, comparison_name};
 ghost use Rattle.core_scalars.specs.IntegerNames.{integer_test_name};
 ghost use Rattle.core_scalars.specs.IntegerNames.{integer_row, integer_functions};
 ghost use Rattle.core_scalars.specs.IntegerNames.{integer_function_named, name_of_integer_function};
 ghost use Rattle.core_scalars.specs.IntegerNames.{fits_integer_function};
 
-use core_items::{Arity, FunctionRow, HasRow, first_named};
+use repl_values::{Arity, FunctionRow, HasRow, first_named};
 
 /// A function whose value is an integer.
 #[derive(Clone, Copy, Debug, PartialEq, Eq)]

@@ -9,8 +9,7 @@ ghost use Rattle.core_scalars.specs.IntegerMeaning as meant;
 use crate::arithmetic::arithmetic;
 use crate::comparison::{is_ordered, passes_integer_test};
 use crate::integer_function::IntegerFunction;
-use core_items::integer_of;
-use repl_values::{ApplyError, Value};
+use repl_values::{ApplyError, Value, integer_of};
 use std::alloc::Global;
 
 /// The function's value at as many arguments as it takes. All arguments' kinds are checked from the

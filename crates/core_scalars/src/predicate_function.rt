@@ -5,7 +5,7 @@ ghost use Rattle.core_scalars.specs.PredicateNames.{predicate_functions, predica
 ghost use Rattle.core_scalars.specs.PredicateNames.{name_of_predicate_function};
 ghost use Rattle.core_scalars.specs.PredicateNames.{fits_predicate_function};
 
-use core_items::{Arity, FunctionRow, HasRow, first_named};
+use repl_values::{Arity, FunctionRow, HasRow, first_named};
 
 /// A test of one value, of any kind.
 #[derive(Clone, Copy, Debug, PartialEq, Eq)]

@@ -4,7 +4,7 @@ ghost use Rattle.std.specs.List.{list_all};
 ghost use Rattle.value_data.specs.Inside.View.{view};
 ghost use Rattle.value_data.specs.Same.{same as are_same};
 ghost use Rattle.repl_values.specs.Inside.FaultView.{Gives};
-ghost use Rattle.core_items.specs.Arguments.{neighbours};
+ghost use Rattle.repl_values.specs.Arguments.{neighbours};
 ghost use Rattle.core_scalars.specs.PredicateNames.{fits_predicate_function};
 ghost use Rattle.core_scalars.specs.PredicateMeaning as meant;
 

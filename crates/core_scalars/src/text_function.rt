@@ -5,7 +5,7 @@ ghost use Rattle.core_scalars.specs.TextNames.{name_of_text_function, fits_text_
 ghost use Rattle.core_scalars.specs.TextNames.{print_row, print_functions, print_function_named};
 ghost use Rattle.core_scalars.specs.TextNames.{name_of_print_function};
 
-use core_items::{Arity, FunctionRow, HasRow, first_named};
+use repl_values::{Arity, FunctionRow, HasRow, first_named};
 
 /// A function that gives a text.
 #[derive(Clone, Copy, Debug, PartialEq, Eq)]

@@ -7,10 +7,10 @@ use Rattle.core_functions.specs.StoreNames.{store_name_of}
 use Rattle.repl_asks.specs.Sends.{NamedFunctionData, SendingData}
 use Rattle.repl_asks.specs.Exchange.{AskData, send, may_send, PermissionData, granted, denied}
 use Rattle.repl_asks.specs.Exchange.{permission_in}
-use Rattle.tx_attempt.specs.Accesses.{sent}
-use Rattle.store_calls.specs.Arguments.{agent_in}
-use Rattle.store_calls.specs.Calling.{dispatching}
-use Rattle.store_calls.specs.declared.sending.Dispatch.{Dispatch}
+use Rattle.repl_asks.specs.Accesses.{sent}
+use Rattle.evaluation_rules.specs.Arguments.{agent_in}
+use Rattle.evaluation_rules.specs.Calling.{dispatching}
+use Rattle.evaluation_rules.specs.declared.sending.Dispatch.{Dispatch}
 use Rattle.evaluation_rules.specs.declared.occasion.Occasion.{Occasion}
 use Rattle.evaluation_rules.specs.Doing.{failed, left, asking, noting, Part, fails}
 

@@ -14,7 +14,7 @@ use Rattle.repl_asks.specs.Exchange.{NamedFunctionData, core_function, store_fun
 use Rattle.repl_asks.specs.Exchange.{program_function}
 use Rattle.special_forms.specs.Functions.{FunctionData}
 use Rattle.special_forms.specs.Locals.{LocalData}
-use Rattle.store_calls.specs.declared.updating.Update.{Update}
+use Rattle.evaluation_rules.specs.declared.updating.Update.{Update}
 use Rattle.evaluation_rules.specs.Doing.{failed, left, printing, Part, fails}
 use Rattle.evaluation_rules.specs.Places.{PlaceData, Evaluator}
 use Rattle.evaluation_rules.specs.Rows.{last_of}

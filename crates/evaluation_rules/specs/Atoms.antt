@@ -7,7 +7,7 @@ use Rattle.core_functions.specs.StoreNames.{store_name_of}
 use Rattle.core_functions.specs.declared.store.StoreFunction.{StoreFunction}
 use Rattle.repl_asks.specs.Exchange.{NamedFunctionData, read_atom, try_atom}
 use Rattle.special_forms.specs.Truth.{is_truthy}
-use Rattle.store_calls.specs.Arguments.{atom_in}
+use Rattle.evaluation_rules.specs.Arguments.{atom_in}
 use Rattle.evaluation_rules.specs.Doing.{failed, left, Part, ◌>>=◌, pure_part, fails}
 use Rattle.evaluation_rules.specs.Places.{Evaluator}
 use Rattle.evaluation_rules.specs.Refs.{asked_value}

@@ -9,11 +9,11 @@ use Rattle.core_functions.specs.declared.store.StoreFunction.{StoreFunction}
 use Rattle.repl_asks.specs.Transactions.{RefNameData, CommuteData, may_hold}
 use Rattle.repl_asks.specs.Exchange.{NamedFunctionData, core_function, store_function}
 use Rattle.repl_asks.specs.Exchange.{program_function}
-use Rattle.tx_attempt.specs.Accesses.{commuted}
-use Rattle.store_calls.specs.Calling.{altered_in, altering}
-use Rattle.store_calls.specs.declared.altering.Alteration.{Alteration}
-use Rattle.store_calls.specs.declared.sending.Dispatch.{Dispatch}
-use Rattle.store_calls.specs.declared.updating.Update.{Update}
+use Rattle.repl_asks.specs.Accesses.{commuted}
+use Rattle.evaluation_rules.specs.Calling.{altered_in, altering}
+use Rattle.evaluation_rules.specs.declared.altering.Alteration.{Alteration}
+use Rattle.evaluation_rules.specs.declared.sending.Dispatch.{Dispatch}
+use Rattle.evaluation_rules.specs.declared.updating.Update.{Update}
 use Rattle.evaluation_rules.specs.Doing.{failed, left, noting, Part, ◌>>=◌, fails}
 use Rattle.evaluation_rules.specs.Places.{PlaceData, Evaluator}
 use Rattle.evaluation_rules.specs.Rows.{row}

@@ -4,7 +4,7 @@ use Rattle.std.specs.Prelude.{ℕ, List, Bool}
 use Rattle.value_data.specs.Datum.{Datum}
 use Rattle.repl_values.specs.Failure.{Failure}
 use Rattle.repl_asks.specs.Exchange.{AskData, AnswerData, ResolutionData, resolution_in}
-use Rattle.tx_attempt.specs.Accesses.{AccessData, AttemptData}
+use Rattle.repl_asks.specs.Accesses.{AccessData, AttemptData}
 use Rattle.evaluation_rules.specs.declared.occasion.Occasion.{Occasion}
 
 -- What an evaluation carries from form to form: the calls that it may still make, its namespace,

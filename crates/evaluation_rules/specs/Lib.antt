@@ -1,3 +1,5 @@
+pub mod Arguments
+pub mod Calling
 pub mod Doing
 pub mod SharedText
 pub mod Tree
@@ -13,3 +15,4 @@ pub mod Transactions
 pub mod SpecialForms
 pub mod Collections
 pub mod Evaluation
+pub mod Inside

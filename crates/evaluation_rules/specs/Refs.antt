@@ -9,10 +9,10 @@ use Rattle.core_functions.specs.declared.store.StoreFunction.{StoreFunction}
 use Rattle.repl_asks.specs.Transactions.{RefNameData, may_hold}
 use Rattle.repl_asks.specs.Exchange.{AskData, read, ReadingData, found, retry, PermissionData}
 use Rattle.repl_asks.specs.Exchange.{granted, denied, value_in, reading_in, permission_in}
-use Rattle.tx_attempt.specs.Accesses.{got, put, ensured, attempt_value, is_commuted}
-use Rattle.store_calls.specs.Calling.{CallData, refused, reads, puts, ensures, asks_value}
-use Rattle.store_calls.specs.Calling.{asks_permission}
-use Rattle.store_calls.specs.Calling.{call_data_of, shared_call_data_of, action_call_data_of}
+use Rattle.repl_asks.specs.Accesses.{got, put, ensured, attempt_value, is_commuted}
+use Rattle.evaluation_rules.specs.Calling.{CallData, refused, reads, puts, ensures, asks_value}
+use Rattle.evaluation_rules.specs.Calling.{asks_permission}
+use Rattle.evaluation_rules.specs.Calling.{call_data_of, shared_call_data_of, action_call_data_of}
 use Rattle.evaluation_rules.specs.declared.occasion.Occasion.{Occasion}
 use Rattle.evaluation_rules.specs.Doing.{left, failed, retried, asking, looking, noting, Part}
 use Rattle.evaluation_rules.specs.Doing.{◌>>=◌, fails}

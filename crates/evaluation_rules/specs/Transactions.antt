@@ -5,7 +5,7 @@ use Rattle.repl_values.specs.Failure.{broken_rule}
 use Rattle.repl_values.specs.declared.rule.Rule.{Rule}
 use Rattle.repl_asks.specs.Exchange.{begin, commit, VerdictData, committed, conflict, faulted}
 use Rattle.repl_asks.specs.Exchange.{verdict_in}
-use Rattle.tx_attempt.specs.Accesses.{AttemptData, intent_of, nothing_noted}
+use Rattle.repl_asks.specs.Accesses.{AttemptData, intent_of, nothing_noted}
 use Rattle.evaluation_rules.specs.Doing.{Kept, Exit, gave, failed, retried, Doing, left, asking}
 use Rattle.evaluation_rules.specs.Doing.{trying, Part}
 use Rattle.evaluation_rules.specs.Tree.{with_attempt}

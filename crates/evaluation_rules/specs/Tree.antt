@@ -7,7 +7,7 @@ use Rattle.repl_values.specs.Failure as failures
 use Rattle.repl_values.specs.Failure.{Failure}
 use Rattle.repl_values.specs.declared.rule.Rule.{Rule}
 use Rattle.repl_asks.specs.InteractionTree.{InteractionTree, finished, asks}
-use Rattle.tx_attempt.specs.Accesses.{AttemptData, noted, nothing_noted}
+use Rattle.repl_asks.specs.Accesses.{AttemptData, noted, nothing_noted}
 use Rattle.evaluation_rules.specs.Doing.{Kept, Exit, gave, failed, retried, Doing, left, asking}
 use Rattle.evaluation_rules.specs.Doing.{printing, looking, noting, trying}
 

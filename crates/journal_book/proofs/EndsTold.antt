@@ -4,18 +4,18 @@ use Rattle.std.proofs.Common.{◌==◌, refl, sym, ap, subst}
 use Rattle.std.specs.Prelude.{⊤}
 use Rattle.repl_asks.specs.Exchange.{AnswerData}
 use Rattle.repl_asks.specs.Job.{EndingData}
-use Rattle.server_rules.specs.Calls.{performed}
+use Rattle.ref_table.specs.Calls.{performed}
 use Rattle.server_rules.specs.Comparisons.{AreExact}
 use Rattle.server_rules.specs.Ending.{end_compared, end_running, end_of}
 use Rattle.server_rules.specs.Ground.{Ground}
 use Rattle.server_rules.specs.Grounds.{IsRight}
 use Rattle.server_rules.specs.Machine.World.{TenantData, World, does, Stepped, accepted, refused}
 use Rattle.server_rules.specs.Machine.World.{ended_as, deed_step, step}
-use Rattle.server_rules.specs.Numbered.{part_under}
+use Rattle.ref_table.specs.Numbered.{part_under}
 use Rattle.server_rules.specs.Plan.{Outcome, refuses, leaves, Plan, ends, form_finished}
 use Rattle.server_rules.specs.Deeds.{for_actor, plan}
 use Rattle.server_rules.specs.Request.{Hand, Run}
-use Rattle.server_rules.specs.Store.{Store}
+use Rattle.ref_table.specs.Store.{Store}
 use Rattle.server_rules.specs.Tenant.{ActorData, Quiet, seat_of, is_held}
 use Rattle.server_rules.specs.declared.actor.Actor.{Actor}
 use Rattle.tenant_world.specs.Running.{running_of, running_in}

@@ -1,6 +1,5 @@
 -- The form that runs is the one of which the journal tells.
 use Rattle.std.proofs.Common.{◌≡◌, ◌∙◌, ℕ, List, [], ◌∷◌, Option, Some, None, sym, ap, subst}
-use Rattle.repl_asks.specs.Job.{EndingData}
 use Rattle.server_rules.specs.Ground.{Ground}
 use Rattle.server_rules.specs.Request.{Run}
 use Rattle.server_rules.specs.Machine.World.{World, Step, opened_world, opens, does, closes}
@@ -10,7 +9,7 @@ use Rattle.server_rules.proofs.Numbered.{none-some}
 use Rattle.repl_core.specs.Forms.{form_by_step}
 use Rattle.repl_core.specs.Kept.{EndsAsKept}
 use Rattle.repl_core.proofs.FormSteps.{CoversIn, step-tells}
-use Rattle.journal_book.specs.Forms.{form_told_from, form_told, form_of, TellsForms, EndsAsTold}
+use Rattle.journal_book.specs.Forms.{form_told_from, form_of, TellsForms, EndsAsTold}
 use Rattle.journal_book.specs.Journal.{EntryData, IsJournal}
 
 told-from : (g : Ground) (t : ℕ) (a : Actor) (es : List EntryData) (w now : World)

@@ -4,7 +4,7 @@ use Rattle.std.proofs.Common.{Result, Ok, Err, IfErr, ℕ, Option, None, Some, o
 use Rattle.std.specs.Result.{IsErrAnd}
 use Rattle.server_rules.specs.Ground.{Ground}
 use Rattle.server_rules.specs.Plan.{StepAnswer}
-use Rattle.server_rules.specs.Store.{Store}
+use Rattle.ref_table.specs.Store.{Store}
 use Rattle.server_rules.specs.Tenant.{Quiet}
 use Rattle.server_rules.specs.Machine.World.{TenantData, World, Step, opened_world, accepted}
 use Rattle.server_rules.specs.Machine.World.{refused, step}

@@ -1,16 +1,18 @@
 -- What the book says of its journal, and of a step that it makes.
-use Rattle.std.specs.Prelude.{◌≡◌, ◌≢◌, ◌+◌, ◌<◌, ◌^◌, List, [], ◌∷◌, ◌++◌, length}
+use Rattle.std.specs.Prelude.{◌≡◌, ◌≢◌, ◌+◌, ◌<◌, ◌^◌, ◌⊎◌, ℕ, List, [], ◌∷◌, ◌++◌, length}
 use Rattle.std.specs.Prelude.{Result, IfOk, OnOk, IfErr}
 use Rattle.server_rules.specs.Ground.{Ground}
-use Rattle.server_rules.specs.Plan.{StepAnswer}
+use Rattle.server_rules.specs.Plan.{StepAnswer, tenant_opened}
 use Rattle.server_rules.specs.Machine.World.{World, Step, opened_world, accepted, refused, step}
+use Rattle.server_rules.specs.Machine.World.{opens}
 use Rattle.server_rules.specs.declared.refusal.Refusal.{Refusal}
 use Rattle.repl_core.specs.Configured.{IsConfigured}
 use Rattle.repl_core.specs.Standing.{MachineStands}
 use Rattle.repl_core.specs.declared.machine.Config.{Config}
 use Rattle.repl_core.specs.declared.machine.Machine.{Machine}
 use Rattle.journal_book.specs.Journal.{EntryData, IsJournal}
-use Rattle.journal_book.specs.View.{entries, BookData}
+use Rattle.journal_book.specs.View.{entries, BookData, SeatData, seat_with}
+use Rattle.journal_book.specs.declared.book.TheConstants.{TENANTS}
 use Rattle.journal_book.specs.declared.entry.Entry.{Entry}
 
 -- the machine stands for the server to which the journal leads, from one to which nobody came
@@ -46,6 +48,36 @@ entry s answer = record { step = s; answer = answer }
 pub record Notes (old new : BookData) (e : EntryData) : Type 0 where
   pub config : new.config ≡ old.config
   pub journal : entries new.journal ≡ entries old.journal ++ e ∷ []
+
+-- a step was made: it is written down behind the others with this answer, which is that of the
+-- server to which they led, and counted on the seat
+pub record IsMade
+    (old new : BookData) (before after : SeatData) (s : Step) (told : StepAnswer) : Type 0 where
+  pub journal : Notes old new (entry s told)
+  pub answer : IsAnswered old.config (entries old.journal) s told
+  pub counted : after ≡ seat_with before.tenant (before.made + 1)
+  pub tenants : new.tenants ≡ old.tenants
+
+-- a step was not made: the server to which the journal leads refuses it so, unless for want of
+-- memory, and book and seat are as they were
+pub record IsDeclined
+    (old new : BookData) (before after : SeatData) (s : Step) (why : Refusal) : Type 0 where
+  pub refused : IsRefused old.config (entries old.journal) s why
+  pub book : new ≡ old
+  pub seat : after ≡ before
+
+-- a tenant was opened, which has the next number
+pub record IsAdmitted (old new : BookData) (tenant : ℕ) : Type 0 where
+  pub number : tenant ≡ old.tenants
+  pub journal : Notes old new (entry (opens tenant) tenant_opened)
+  pub answer : IsAnswered old.config (entries old.journal) (opens old.tenants) tenant_opened
+  pub tenants : new.tenants ≡ old.tenants + 1
+
+-- no tenant is opened: a book admits no more, or the server to which the journal leads refuses the
+-- next one so, unless for want of memory
+abbrev pub RefusesTenant : BookData → Refusal → Type 0
+RefusesTenant b why = ((why ≡ Refusal.Full) × (b.tenants ≡ TENANTS))
+    ⊎ IsRefused b.config (entries b.journal) (opens b.tenants) why
 
 -- What a call makes of the machine and the journal that it is lent, for every configuration for
 -- which the machine keeps the journal.

@@ -3,9 +3,13 @@ ghost use Rattle.std.specs.Prelude.{◌≡◌, None};
 ghost use Rattle.tenant_parts.specs.Aside.{printed_in};
 
 use repl_walker::{Ending, Walk};
+use std::alloc::Global;
 use std::boxed::Box;
 use tenant_parts::Aside;
 use tenant_world::Tenant;
+
+// A size, in bytes, for which the usual allocators keep no list of their own.
+const SETTLING: usize = 2_048;
 
 /// What was done for an act beforehand, and what it leaves to nobody. Whoever has a book under a lock
 /// frees that behind it.
@@ -41,5 +45,12 @@ impl Beside {
             walk: None,
             tenant: None,
         }
+    }
+
+    /// Frees what is left. Then it asks for a little memory, once: an allocator that sorts what was
+    /// freed only when memory is next asked for does it now, and not while others wait for a lock.
+    pub fn free(self, alloc: Global) {
+        drop(self);
+        drop(Vec::<u8>::with_capacity(alloc, SETTLING));
     }
 }

@@ -1,9 +1,8 @@
 // The book: the journal, the machine that stands for it, and the count of all steps.
-ghost use Rattle.std.specs.Prelude.{◌≡◌, ◌≢◌, ◌+◌, ◌*◌, ◌<◌, ◌≤◌, ◌^◌, ◌⊎◌, ℕ, [], true, IfOk};
-ghost use Rattle.std.specs.Prelude.{IfErr, OnErr, OnOk, length, vec_len};
+ghost use Rattle.std.specs.Prelude.{◌≡◌, ◌≢◌, ◌+◌, ◌*◌, ◌<◌, ◌≤◌, ◌^◌, ℕ, [], true, IfOk};
+ghost use Rattle.std.specs.Prelude.{IfErr, OnOk, length, vec_len};
 ghost use Rattle.std.specs.Prelude.{option_and_then, option_copied, option_map};
 ghost use Rattle.server_rules.specs.Ground.{Ground};
-ghost use Rattle.server_rules.specs.Plan.{tenant_opened};
 ghost use Rattle.server_rules.specs.Machine.Ready.{ready};
 ghost use Rattle.server_rules.specs.Machine.World.{World, opened_world, opens};
 ghost use Rattle.server_rules.specs.Machine.Turns.{whose_step, serve};
@@ -20,7 +19,8 @@ ghost use Rattle.journal_book.specs.Forms.{EndsAsTold};
 ghost use Rattle.journal_book.specs.Journal.{IsJournal};
 ghost use Rattle.journal_book.specs.View.{entries, seat_with};
 ghost use Rattle.journal_book.specs.Rows.{row, row_of, entries_of, counted_of, all_counted};
-ghost use Rattle.journal_book.specs.Standing.{HoldsBehind, IsAnswered, IsRefused, Notes, entry};
+ghost use Rattle.journal_book.specs.Standing.{HoldsBehind, IsAdmitted, IsDeclined, IsMade};
+ghost use Rattle.journal_book.specs.Standing.{RefusesTenant};
 
 use crate::beside::Beside;
 use crate::entry::Entry;
@@ -39,7 +39,7 @@ use std::sync::ledger::{Blank, Ledger, Share};
 pub const TENANTS: u64 = 1_000_000;
 
 /// How many seats a tenant gets.
-const SEATS: u64 = 5;
+pub const SEATS: u64 = 5;
 
 /// Into how many parts a book's ledger is cut: one for each seat, and one that stays.
 pub const PARTS: u64 = 5_000_001;
@@ -221,21 +221,15 @@ impl<L: Ledger> Book<L> {
         }
     }
 
-    /// Opens the next tenant, which is counted on the first of its seats. Where it is refused
-    /// nothing has changed.
+    /// Opens the next tenant, which is counted on its reader's seat. Where it is refused nothing has
+    /// changed.
     pub fn admit(&mut self) -> Result<Places<L>, Refusal>
-        ensures journal { IfOk result (λ p. Notes self.old self.new
-            (entry (opens p.tenant) tenant_opened)) }
-        ensures tenants { OnOk result (self.new.tenants ≡ self.old.tenants + 1) }
-        ensures answer { OnOk result (IsAnswered self.old.config (entries self.old.journal)
-            (opens self.old.tenants) tenant_opened) }
-        ensures tenant { IfOk result (λ p. p.tenant ≡ self.old.tenants) }
+        ensures admitted { IfOk result (λ p. IsAdmitted self.old self.new p.tenant) }
         ensures seats { IfOk result (λ p. (p.reader ≡ seat_with p.tenant 1)
             × (p.worker ≡ seat_with p.tenant 0) × (p.other_worker ≡ seat_with p.tenant 0)
             × (p.writer ≡ seat_with p.tenant 0) × (p.runner ≡ seat_with p.tenant 0)) }
-        ensures refused { IfErr result (λ why. ((why ≡ Refusal.Full) × (self.old.tenants ≡ TENANTS))
-            ⊎ IsRefused self.old.config (entries self.old.journal) (opens self.old.tenants) why) }
-        ensures stays { OnErr result (self.new ≡ self.old) }
+        ensures declined { IfErr result (λ why. (self.new ≡ self.old)
+            × RefusesTenant self.old why) }
     {
         if self.tenants == TENANTS {
             return Err(Refusal::Full);
@@ -263,24 +257,19 @@ impl<L: Ledger> Book<L> {
     /// refused changes nothing, and is given back.
     pub fn act(&mut self, seat: &mut Seat<L>, step: Step) -> Result<Receipt, Refused>
         requires own { whose_step (step_view step) ≡ seat.old.tenant }
-        requires other { step_view step ≢ opens seat.old.tenant }
-        ensures journal { IfOk result (λ r. Notes self.old self.new
-            (entry (step_view step) (step_answer_view r.answer))) }
-        ensures tenants { self.new.tenants ≡ self.old.tenants }
-        ensures answer { IfOk result (λ r. IsAnswered self.old.config (entries self.old.journal)
-            (step_view step) (step_answer_view r.answer)) }
-        ensures place { IfOk result (λ r. r.place ≡ length self.old.journal) }
-        ensures counted { OnOk result (seat.new ≡ seat_with seat.old.tenant (seat.old.made + 1)) }
-        ensures refused { IfErr result (λ it. IsRefused self.old.config (entries self.old.journal)
-            (step_view step) it.why) }
-        ensures stays { IfErr result (λ it. (self.new ≡ self.old) × (seat.new ≡ seat.old)
-            × (it.step ≡ step)) }
+        requires no_opening { step_view step ≢ opens seat.old.tenant }
+        ensures made { IfOk result (λ r. (r.place ≡ length self.old.journal)
+            × IsMade self.old self.new seat.old seat.new (step_view step)
+            (step_answer_view r.answer)) }
+        ensures declined { IfErr result (λ it. (it.step ≡ step) × IsDeclined self.old self.new
+            seat.old seat.new (step_view step) it.why) }
     {
         self.act_with(seat, step, false, &mut Beside::nothing())
     }
 
     /// Does what `act` does, with what was done for it beforehand. Where the step is known, and ends a
     /// form, the journal tells that it ends just the form that runs, and nothing of that is compared.
+    /// What it leaves in `beside` is in no clause.
     pub fn act_with(
         &mut self,
         seat: &mut Seat<L>,
@@ -289,20 +278,14 @@ impl<L: Ledger> Book<L> {
         beside: &mut Beside,
     ) -> Result<Receipt, Refused>
         requires own { whose_step (step_view step) ≡ seat.old.tenant }
-        requires other { step_view step ≢ opens seat.old.tenant }
-        requires told { is_known ≡ true → EndsAsTold (entries self.old.journal) (step_view step) }
+        requires no_opening { step_view step ≢ opens seat.old.tenant }
+        requires as_told { is_known ≡ true → EndsAsTold (entries self.old.journal) (step_view step) }
         requires printed { PrintsStep (printed_in beside.old.aside) (step_view step) }
-        ensures journal { IfOk result (λ r. Notes self.old self.new
-            (entry (step_view step) (step_answer_view r.answer))) }
-        ensures tenants { self.new.tenants ≡ self.old.tenants }
-        ensures answer { IfOk result (λ r. IsAnswered self.old.config (entries self.old.journal)
-            (step_view step) (step_answer_view r.answer)) }
-        ensures place { IfOk result (λ r. r.place ≡ length self.old.journal) }
-        ensures counted { OnOk result (seat.new ≡ seat_with seat.old.tenant (seat.old.made + 1)) }
-        ensures refused { IfErr result (λ it. IsRefused self.old.config (entries self.old.journal)
-            (step_view step) it.why) }
-        ensures stays { IfErr result (λ it. (self.new ≡ self.old) × (seat.new ≡ seat.old)
-            × (it.step ≡ step)) }
+        ensures made { IfOk result (λ r. (r.place ≡ length self.old.journal)
+            × IsMade self.old self.new seat.old seat.new (step_view step)
+            (step_answer_view r.answer)) }
+        ensures declined { IfErr result (λ it. (it.step ≡ step) × IsDeclined self.old self.new
+            seat.old seat.new (step_view step) it.why) }
     {
         let place = self.journal.len();
         let (machine, journal) = (&mut self.machine, &mut self.journal);

@@ -11,7 +11,7 @@ mod seat;
 mod writing;
 
 pub use beside::Beside;
-pub use book::{Book, PARTS, Places, Receipt, TENANTS, Unclosed};
+pub use book::{Book, PARTS, Places, Receipt, SEATS, TENANTS, Unclosed};
 pub use entry::{AcceptedStep, AnsweredAsk, Entry, HeardPiece, ResolvedSymbol};
 pub use report::{Report, Row};
 pub use seat::Seat;

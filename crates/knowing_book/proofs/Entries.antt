@@ -2,7 +2,7 @@
 use Rattle.std.proofs.Common.{◌≡◌, ◌∙◌, ℕ, List, [], ◌∷◌, ◌++◌, length, refl, sym, ap}
 use Rattle.std.proofs.Common.{Option, None, Some, IfSome}
 use mathlib.Core.List.{IsPrefix}
-use Rattle.history.proofs.Seeing.{prefix-seen, length-seen, adds-seen}
+use Rattle.knowing_book.proofs.Seeing.{prefix-seen, length-seen, adds-seen}
 use Rattle.journal_book.specs.Journal.{EntryData}
 use Rattle.journal_book.specs.View.{entries, entry_in}
 use Rattle.journal_book.specs.declared.entry.Entry.{Entry}

@@ -4,9 +4,9 @@ use Rattle.std.proofs.Common.{length, map, Option, Some, None, IfSome, slice_get
 use Rattle.std.proofs.Common.{if◌then◌else◌, ◌&&◌, true≢false}
 use Rattle.std.proofs.lemmas.Bool.Decides.{nat_tests}
 use mathlib.Core.List.{IsPrefix}
-use Rattle.history.specs.Lasts.{is_key, last_of, last_at, AreLasts}
-use Rattle.history.specs.declared.lasts.Lasts.{Lasts}
-use Rattle.history.proofs.Telling.{told_from, told-snoc, same-told, told-on}
+use Rattle.knowing_book.specs.Lasts.{is_key, last_of, last_at, AreLasts}
+use Rattle.knowing_book.specs.declared.lasts.Lasts.{Lasts}
+use Rattle.knowing_book.proofs.Telling.{told_from, told-snoc, same-told, told-on}
 use Rattle.repl_asks.specs.Exchange.{AskData, AnswerData}
 use Rattle.repl_asks.specs.Job.{JobData}
 use Rattle.repl_core.specs.Forms.{form_by_step}

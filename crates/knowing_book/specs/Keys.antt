@@ -1,7 +1,7 @@
 -- The key under which the entries of an actor stand with which it begins, asks and ends. Where two
 -- actors have one key, the entries of both stand under it.
 use Rattle.std.specs.Prelude.{◌+◌, ◌*◌, ◌%◌, ◌^◌, ℕ, Bool, List, Option, None, Some}
-use Rattle.history.specs.Lasts.{is_key, last_of}
+use Rattle.knowing_book.specs.Lasts.{is_key, last_of}
 use Rattle.server_rules.specs.Machine.World.{Step, opens, does, closes}
 use Rattle.server_rules.specs.Plan.{Deed, hears, starts, asks_for, ends, drains}
 use Rattle.server_rules.specs.declared.actor.Actor.{Actor}

@@ -1,9 +1,10 @@
 -- What is seen of a form between its steps, and what a step of it comes to.
-use Rattle.std.specs.Prelude.{[]}
+use Rattle.std.specs.Prelude.{◌≡◌, List, []}
 use Rattle.repl_asks.specs.Inside.View.{ask_view, answer_view, trace_view}
 use Rattle.repl_asks.specs.Inside.Jobs.{job_view}
 use Rattle.repl_asks.specs.declared.answer.Answer.{Answer}
 use Rattle.repl_asks.specs.declared.ask.Ask.{Ask}
+use Rattle.repl_asks.specs.declared.exchange.Exchange.{Exchange}
 use Rattle.repl_asks.specs.declared.job.Job.{Job}
 use Rattle.repl_walker.specs.Waits.{progress_job, progress_trace}
 use Rattle.repl_walker.specs.declared.ending.Ending.{Ending}
@@ -14,18 +15,26 @@ use Rattle.server_rules.specs.Machine.World.{Step}
 use Rattle.server_rules.specs.Request.{Run}
 use Rattle.server_rules.specs.declared.actor.Actor.{Actor}
 use Rattle.journal_book.specs.Journal.{EntryData}
-use Rattle.journal_book.specs.Standing.{IsAnswered, Notes, entry}
-use Rattle.journal_book.specs.View.{BookData, entries}
+use Rattle.journal_book.specs.Standing.{IsMade}
+use Rattle.journal_book.specs.View.{BookData, SeatData}
 use Rattle.tenant_asks.specs.Asking.{exchange_from, run_with}
 
--- a form that begins, one that asks, and one that ends
+-- A form that begins, one that asks, with what it was answered before, one with its answer, and one
+-- that ends.
+
 pub record BegunData : Type 0 where
   pub actor : Actor
   pub job : Job
 
 pub record QuestionData : Type 0 where
   pub actor : Actor
+  pub job : Job
+  pub trace : List Exchange
   pub ask : Ask
+
+pub record AnsweredData : Type 0 where
+  pub question : QuestionData
+  pub answer : Answer
 
 pub record FinishData : Type 0 where
   pub actor : Actor
@@ -42,11 +51,24 @@ abbrev pub answered_run : Walk → Answer → Run
 answered_run w answer =
     run_with (exchange_from (ask_view w.ask) (answer_view answer)) (walk_run w)
 
+abbrev pub question_run : QuestionData → Run
+question_run q = record { job = job_view q.job; trace = trace_view q.trace }
+
+-- behind the answer
+abbrev pub told_run : AnsweredData → Run
+told_run r = run_with (exchange_from (ask_view r.question.ask) (answer_view r.answer))
+    (question_run r.question)
+
+-- the same question, up to a copy of its ask
+abbrev pub IsOf : QuestionData → QuestionData → Type 0
+IsOf q p = (q.actor ≡ p.actor) × (question_run q ≡ question_run p)
+    × (ask_view q.ask ≡ ask_view p.ask)
+
 abbrev pub begun_run : Job → Run
 begun_run job = record { job = job_view job; trace = [] }
 
--- a step was answered as the server does to which the journal led, with such an answer, and written
--- down with it
-abbrev pub IsNoted : BookData → BookData → Step → (StepAnswer → Type 0) → Type 0
-IsNoted old new s Fits = (answer : StepAnswer) × Notes old new (entry s answer)
-    × IsAnswered old.config (entries old.journal) s answer × Fits answer
+-- a step was made, with such an answer
+abbrev pub MakesOne : BookData → BookData → SeatData → SeatData → Step → (StepAnswer → Type 0)
+    → Type 0
+MakesOne old new before after s Fits =
+    (answer : StepAnswer) × IsMade old new before after s answer × Fits answer

@@ -1,30 +1,31 @@
 // The book, what is known of its journal, and where the last entries of actors stand.
-ghost use Rattle.std.specs.Prelude.{◌≡◌, ◌≢◌, ◌+◌, List, [], ◌∷◌, ◌++◌, true};
-ghost use Rattle.std.specs.Prelude.{IfOk, IfErr, IfSome, OnErr, OnOk, Some, length};
+ghost use Rattle.std.specs.Prelude.{ℕ, ◌≡◌, ◌≢◌, ◌+◌, List, [], ◌∷◌, ◌++◌, true};
+ghost use Rattle.std.specs.Prelude.{IfOk, IfErr, IfSome, Some, length};
 ghost use Rattle.repl_asks.specs.Inside.View.{ask_view, answer_view};
 ghost use Rattle.repl_asks.specs.Inside.Jobs.{job_view};
 ghost use Rattle.repl_walker.specs.Ends.{ending_view};
-ghost use Rattle.server_rules.specs.Plan.{starts, asks_for, ends, tenant_opened};
+ghost use Rattle.server_rules.specs.Plan.{starts, asks_for, ends};
 ghost use Rattle.server_rules.specs.Plan.{form_begun, ask_answered};
 ghost use Rattle.server_rules.specs.Machine.World.{does, opens, closes};
 ghost use Rattle.server_rules.specs.Machine.Turns.{whose_step};
 ghost use Rattle.server_rules.specs.Request.{Run};
 ghost use Rattle.repl_core.specs.Forms.{form_by_step};
 ghost use Rattle.repl_core.specs.Steps.{step_view, step_answer_view};
-ghost use Rattle.history.specs.Lasts.{AreLasts};
+ghost use Rattle.knowing_book.specs.Lasts.{AreLasts};
 ghost use Rattle.tenant_parts.specs.Aside.{printed_in};
 ghost use Rattle.journal_book.specs.Beside.{PrintsStep};
-ghost use Rattle.journal_book.specs.Forms.{form_told, EndsAsTold};
+ghost use Rattle.journal_book.specs.Forms.{form_of, form_told, EndsAsTold};
 ghost use Rattle.journal_book.specs.Journal.{EntryData};
-ghost use Rattle.journal_book.specs.Standing.{IsAnswered, IsRefused, Notes, entry};
+ghost use Rattle.journal_book.specs.Standing.{IsAdmitted, IsDeclined, IsMade, RefusesTenant, entry};
 ghost use Rattle.journal_book.specs.View.{entries, seat_with};
 ghost use Rattle.knowing_book.specs.Keys.{entry_key, last_by};
 ghost use Rattle.knowing_book.specs.Knowledge.{Knows, Shares};
-ghost use Rattle.knowing_book.specs.View.{IsNoted};
+ghost use Rattle.knowing_book.specs.View.{IsOf, MakesOne};
 
 use crate::forms::{Answered, Begun, Fact, Finish, Question};
 use crate::keys::{actor_key, step_key};
-use history::{Known, Lasts, Length, Naming, Opened};
+use crate::known::{Known, Length, Naming, Opened};
+use crate::lasts::Lasts;
 use journal_book::{Beside, Book, Entry, Places, Receipt, Seat};
 use paged_list::Pages;
 use repl_core::{Refused, Step, StepAnswer};
@@ -55,7 +56,7 @@ impl<L: Ledger, N: Naming> Drop for KnowingBook<L, N> {
 impl<L: Ledger, N: Naming> Model for KnowingBook<L, N> {
     ghost use Rattle.std.specs.Prelude.{◌≡◌, IfSome};
     ghost use Rattle.std.specs.Coded.{codes};
-    ghost use Rattle.history.specs.Lasts.{AreLasts};
+    ghost use Rattle.knowing_book.specs.Lasts.{AreLasts};
     ghost use Rattle.journal_book.specs.contracts.entry.Entry as kept;
     ghost use Rattle.journal_book.specs.View.{BookData, entries};
     ghost use Rattle.knowing_book.specs.Keys.{entry_key};
@@ -128,7 +129,11 @@ impl<L: Ledger, N: Naming> KnowingBook<L, N> {
     }
 
     /// Whether this ending, handed in now from a seat of its tenant, would be believed.
-    pub fn believes(&self, finish: &Finish<N>) -> bool {
+    pub fn believes(&self, finish: &Finish<N>) -> bool
+        ensures { result ≡ true → (t : ℕ)
+            × (form_told t finish.now.actor (entries self.now.journal)
+            ≡ Some (form_of (ending_view finish.now.ending))) }
+    {
         let fact = &finish.fact;
         let kept = self.lasts.get(actor_key(fact.tenant, fact.actor));
         shares(&self.known, &fact.known, kept, fact.last)
@@ -136,14 +141,12 @@ impl<L: Ledger, N: Naming> KnowingBook<L, N> {
 
     /// Opens the next tenant, as the book does.
     pub fn admit(&mut self) -> Result<Places<L>, Refusal>
-        ensures journal { IfOk result (λ p. Notes self.old self.new
-            (entry (opens p.tenant) tenant_opened)) }
-        ensures tenants { OnOk result (self.new.tenants ≡ self.old.tenants + 1) }
-        ensures tenant { IfOk result (λ p. p.tenant ≡ self.old.tenants) }
+        ensures admitted { IfOk result (λ p. IsAdmitted self.old self.new p.tenant) }
         ensures seats { IfOk result (λ p. (p.reader ≡ seat_with p.tenant 1)
             × (p.worker ≡ seat_with p.tenant 0) × (p.other_worker ≡ seat_with p.tenant 0)
             × (p.writer ≡ seat_with p.tenant 0) × (p.runner ≡ seat_with p.tenant 0)) }
-        ensures stays { OnErr result (self.new ≡ self.old) }
+        ensures declined { IfErr result (λ why. (self.new ≡ self.old)
+            × RefusesTenant self.old why) }
     {
         let place = self.book.journal().len();
         let places = self.book.admit()?;
@@ -155,31 +158,22 @@ impl<L: Ledger, N: Naming> KnowingBook<L, N> {
     /// Makes a step of the seat's tenant, as the book does.
     pub fn act(&mut self, seat: &mut Seat<L>, step: Step) -> Result<Receipt, Refused>
         requires own { whose_step (step_view step) ≡ seat.old.tenant }
-        requires other { step_view step ≢ opens seat.old.tenant }
-        ensures journal { IfOk result (λ r. Notes self.old self.new
-            (entry (step_view step) (step_answer_view r.answer))) }
-        ensures answer { IfOk result (λ r. IsAnswered self.old.config (entries self.old.journal)
-            (step_view step) (step_answer_view r.answer)) }
-        ensures tenants { self.new.tenants ≡ self.old.tenants }
-        ensures place { IfOk result (λ r. r.place ≡ length self.old.journal) }
-        ensures counted { OnOk result (seat.new ≡ seat_with seat.old.tenant (seat.old.made + 1)) }
-        ensures refused { IfErr result (λ it. IsRefused self.old.config (entries self.old.journal)
-            (step_view step) it.why) }
-        ensures stays { IfErr result (λ it. (self.new ≡ self.old) × (seat.new ≡ seat.old)
-            × (it.step ≡ step)) }
+        requires no_opening { step_view step ≢ opens seat.old.tenant }
+        ensures made { IfOk result (λ r. (r.place ≡ length self.old.journal)
+            × IsMade self.old self.new seat.old seat.new (step_view step)
+            (step_answer_view r.answer)) }
+        ensures declined { IfErr result (λ it. (it.step ≡ step) × IsDeclined self.old self.new
+            seat.old seat.new (step_view step) it.why) }
     {
         self.make(seat, step, false, &mut Beside::nothing())
     }
 
     /// The seat's tenant goes.
     pub fn leave(&mut self, seat: &mut Seat<L>, beside: &mut Beside) -> Result<Receipt, Refused>
-        ensures journal { IfOk result (λ r. Notes self.old self.new
-            (entry (closes seat.old.tenant) (step_answer_view r.answer))) }
-        ensures tenants { self.new.tenants ≡ self.old.tenants }
-        ensures answer { IfOk result (λ r. IsAnswered self.old.config (entries self.old.journal)
+        ensures made { IfOk result (λ r. IsMade self.old self.new seat.old seat.new
             (closes seat.old.tenant) (step_answer_view r.answer)) }
-        ensures counted { OnOk result (seat.new ≡ seat_with seat.old.tenant (seat.old.made + 1)) }
-        ensures stays { OnErr result ((self.new ≡ self.old) × (seat.new ≡ seat.old)) }
+        ensures declined { IfErr result (λ it. IsDeclined self.old self.new seat.old seat.new
+            (closes seat.old.tenant) it.why) }
     {
         let tenant = seat.tenant();
         self.make(seat, Step::Bye(tenant), false, beside)
@@ -193,15 +187,11 @@ impl<L: Ledger, N: Naming> KnowingBook<L, N> {
         actor: Actor,
         beside: &mut Beside,
     ) -> Result<Option<Begun<N>>, Refusal>
-        ensures noted { IfOk result (λ it. IsNoted self.old self.new
-            (does seat.old.tenant (starts actor))
-            (λ answer. IfSome it (λ begun. (begun.actor ≡ actor)
-            × (answer ≡ form_begun (job_view begun.job))))) }
-        ensures tenants { self.new.tenants ≡ self.old.tenants }
-        ensures counted { OnOk result (seat.new ≡ seat_with seat.old.tenant (seat.old.made + 1)) }
-        ensures refused { IfErr result (λ why. IsRefused self.old.config (entries self.old.journal)
-            (does seat.old.tenant (starts actor)) why) }
-        ensures stays { OnErr result ((self.new ≡ self.old) × (seat.new ≡ seat.old)) }
+        ensures made { IfOk result (λ it. MakesOne self.old self.new seat.old seat.new
+            (does seat.old.tenant (starts actor)) (λ answer. IfSome it (λ begun.
+            (begun.actor ≡ actor) × (answer ≡ form_begun (job_view begun.job))))) }
+        ensures declined { IfErr result (IsDeclined self.old self.new seat.old seat.new
+            (does seat.old.tenant (starts actor))) }
     {
         let tenant = seat.tenant();
         match self.make(seat, Step::Start(tenant, actor), false, beside) {
@@ -234,15 +224,13 @@ impl<L: Ledger, N: Naming> KnowingBook<L, N> {
         question: Question<N>,
         beside: &mut Beside,
     ) -> Result<Option<Answered<N>>, Unasked<N>>
-        ensures noted { IfOk result (λ it. IsNoted self.old self.new
+        ensures made { IfOk result (λ it. MakesOne self.old self.new seat.old seat.new
             (does seat.old.tenant (asks_for question.actor (ask_view question.ask)))
-            (λ answer. IfSome it (λ told. answer ≡ ask_answered (answer_view told)))) }
-        ensures tenants { self.new.tenants ≡ self.old.tenants }
-        ensures counted { OnOk result (seat.new ≡ seat_with seat.old.tenant (seat.old.made + 1)) }
-        ensures refused { IfErr result (λ it. IsRefused self.old.config (entries self.old.journal)
+            (λ answer. IfSome it (λ told. IsOf told.question question
+            × (answer ≡ ask_answered (answer_view told.answer))))) }
+        ensures declined { IfErr result (λ it. (it.question ≡ question)
+            × IsDeclined self.old self.new seat.old seat.new
             (does seat.old.tenant (asks_for question.actor (ask_view question.ask))) it.why) }
-        ensures stays { IfErr result (λ it. (self.new ≡ self.old) × (seat.new ≡ seat.old)
-            × (it.question ≡ question)) }
     {
         let Question { fact, walk, ask } = question;
         let tenant = seat.tenant();
@@ -278,27 +266,21 @@ impl<L: Ledger, N: Naming> KnowingBook<L, N> {
     }
 
     /// A form ends. Where its actor's last entry is the one that its worker knows of, two numbers are
-    /// compared and nothing of its trace is; else the whole of it. An ending that is refused is given
-    /// back.
+    /// compared and nothing of its trace is; else the whole of it. No clause says which. An ending that
+    /// is refused is given back, without its print.
     pub fn end(
         &mut self,
         seat: &mut Seat<L>,
         finish: Finish<N>,
         beside: &mut Beside,
     ) -> Result<Receipt, Unended<N>>
-        ensures journal { IfOk result (λ r. Notes self.old self.new (entry
-            (does seat.old.tenant (ends finish.actor (ending_view finish.ending)))
-            (step_answer_view r.answer))) }
-        ensures answer { IfOk result (λ r. IsAnswered self.old.config (entries self.old.journal)
+        ensures made { IfOk result (λ r. (r.place ≡ length self.old.journal)
+            × IsMade self.old self.new seat.old seat.new
             (does seat.old.tenant (ends finish.actor (ending_view finish.ending)))
             (step_answer_view r.answer)) }
-        ensures tenants { self.new.tenants ≡ self.old.tenants }
-        ensures place { IfOk result (λ r. r.place ≡ length self.old.journal) }
-        ensures counted { OnOk result (seat.new ≡ seat_with seat.old.tenant (seat.old.made + 1)) }
-        ensures refused { IfErr result (λ it. IsRefused self.old.config (entries self.old.journal)
+        ensures declined { IfErr result (λ it. (it.finish ≡ finish)
+            × IsDeclined self.old self.new seat.old seat.new
             (does seat.old.tenant (ends finish.actor (ending_view finish.ending))) it.why) }
-        ensures stays { IfErr result (λ it. (self.new ≡ self.old) × (seat.new ≡ seat.old)
-            × (it.finish ≡ finish)) }
     {
         let Finish {
             fact,
@@ -339,20 +321,14 @@ impl<L: Ledger, N: Naming> KnowingBook<L, N> {
         beside: &mut Beside,
     ) -> Result<Receipt, Refused>
         requires own { whose_step (step_view step) ≡ seat.old.tenant }
-        requires other { step_view step ≢ opens seat.old.tenant }
-        requires told { is_known ≡ true → EndsAsTold (entries self.old.journal) (step_view step) }
+        requires no_opening { step_view step ≢ opens seat.old.tenant }
+        requires as_told { is_known ≡ true → EndsAsTold (entries self.old.journal) (step_view step) }
         requires printed { PrintsStep (printed_in beside.old.aside) (step_view step) }
-        ensures journal { IfOk result (λ r. Notes self.old self.new
-            (entry (step_view step) (step_answer_view r.answer))) }
-        ensures answer { IfOk result (λ r. IsAnswered self.old.config (entries self.old.journal)
-            (step_view step) (step_answer_view r.answer)) }
-        ensures tenants { self.new.tenants ≡ self.old.tenants }
-        ensures place { IfOk result (λ r. r.place ≡ length self.old.journal) }
-        ensures counted { OnOk result (seat.new ≡ seat_with seat.old.tenant (seat.old.made + 1)) }
-        ensures refused { IfErr result (λ it. IsRefused self.old.config (entries self.old.journal)
-            (step_view step) it.why) }
-        ensures stays { IfErr result (λ it. (self.new ≡ self.old) × (seat.new ≡ seat.old)
-            × (it.step ≡ step)) }
+        ensures made { IfOk result (λ r. (r.place ≡ length self.old.journal)
+            × IsMade self.old self.new seat.old seat.new (step_view step)
+            (step_answer_view r.answer)) }
+        ensures declined { IfErr result (λ it. (it.step ≡ step) × IsDeclined self.old self.new
+            seat.old seat.new (step_view step) it.why) }
     {
         let key = step_key(&step);
         let is_end = matches!(step, Step::Ended(_, _, _));

@@ -1,12 +1,13 @@
 // A form between its steps, with what is known of it for good.
-ghost use Rattle.std.specs.Prelude.{◌≡◌, ℕ, IfOk, option_map, string_bytes};
+ghost use Rattle.std.specs.Prelude.{◌≡◌, IfOk, option_map, string_bytes};
 ghost use Rattle.repl_asks.specs.Inside.Jobs.{finished_view};
 ghost use Rattle.server_rules.specs.Request.{Run};
 ghost use Rattle.tenant_parts.specs.Printed.{PrintsEnd};
 ghost use Rattle.knowing_book.specs.Knowledge.{Knows};
-ghost use Rattle.knowing_book.specs.View.{run_of};
+ghost use Rattle.knowing_book.specs.Reached.{IsReached};
+ghost use Rattle.knowing_book.specs.View.{begun_run, run_of, told_run};
 
-use history::{Known, Naming};
+use crate::known::{Known, Naming};
 use journal_book::Entry;
 use repl_asks::{Answer, Ask, End, Finished, Job};
 use repl_values::print_into;
@@ -78,7 +79,7 @@ impl<N: Naming> Model for Begun<N> {
         (begun_run b.job) };
 }
 
-/// A form that asks. Contracts see its actor and its ask.
+/// A form that asks. Contracts see its actor, its job, its trace and its ask.
 #[derive(Drop)]
 pub struct Question<N: Naming> {
     pub(crate) fact: Fact<N>,
@@ -91,21 +92,34 @@ impl<N: Naming> Model for Question<N> {
     ghost use Rattle.std.specs.Coded.{codes};
     ghost use Rattle.repl_asks.specs.Inside.View.{ask_view};
     ghost use Rattle.repl_asks.specs.contracts.ask.Ask as asks;
+    ghost use Rattle.repl_asks.specs.contracts.exchange.Exchange as exchanges;
+    ghost use Rattle.repl_asks.specs.contracts.job.Job as jobs;
     ghost use Rattle.server_rules.specs.contracts.actor.Actor as actors;
     ghost use Rattle.knowing_book.specs.Knowledge.{Knows};
     ghost use Rattle.knowing_book.specs.View.{QuestionData, walk_run};
 
     ghost Value = { QuestionData };
 
-    ghost coded = { Prim.hlevel (codes, asks.the_row.coded, actors.the_row.coded) };
+    ghost coded = { Prim.hlevel (
+      codes,
+      asks.the_row.coded,
+      exchanges.the_row.coded,
+      jobs.the_row.coded,
+      actors.the_row.coded,
+    ) };
 
-    ghost view = { λ q. record { actor = q.fact.actor; ask = q.ask.value } };
+    ghost view = { λ q. record {
+      actor = q.fact.actor;
+      job = q.walk.job;
+      trace = q.walk.trace.items;
+      ask = q.ask.value;
+    } };
 
     ghost invariant = { λ q. (ask_view q.ask.value ≡ ask_view q.walk.ask)
         × Knows q.fact.known q.fact.tenant q.fact.actor q.fact.last (walk_run q.walk) };
 }
 
-/// A form with the answer to its ask. Contracts see the answer.
+/// A form with the answer to its ask. Contracts see the form as it asked, and the answer.
 #[derive(Drop)]
 pub struct Answered<N: Naming> {
     pub(crate) fact: Fact<N>,
@@ -116,15 +130,33 @@ pub struct Answered<N: Naming> {
 impl<N: Naming> Model for Answered<N> {
     ghost use Rattle.std.specs.Coded.{codes};
     ghost use Rattle.repl_asks.specs.contracts.answer.Answer as answers;
-    ghost use Rattle.repl_asks.specs.declared.answer.Answer.{Answer};
+    ghost use Rattle.repl_asks.specs.contracts.ask.Ask as asks;
+    ghost use Rattle.repl_asks.specs.contracts.exchange.Exchange as exchanges;
+    ghost use Rattle.repl_asks.specs.contracts.job.Job as jobs;
+    ghost use Rattle.server_rules.specs.contracts.actor.Actor as actors;
     ghost use Rattle.knowing_book.specs.Knowledge.{Knows};
-    ghost use Rattle.knowing_book.specs.View.{answered_run};
+    ghost use Rattle.knowing_book.specs.View.{AnsweredData, answered_run};
 
-    ghost Value = { Answer };
+    ghost Value = { AnsweredData };
 
-    ghost coded = { Prim.hlevel (codes, answers.the_row.coded) };
+    ghost coded = { Prim.hlevel (
+      codes,
+      answers.the_row.coded,
+      asks.the_row.coded,
+      exchanges.the_row.coded,
+      jobs.the_row.coded,
+      actors.the_row.coded,
+    ) };
 
-    ghost view = { λ r. r.answer };
+    ghost view = { λ r. record {
+      question = record {
+        actor = r.fact.actor;
+        job = r.walk.job;
+        trace = r.walk.trace.items;
+        ask = r.walk.ask;
+      };
+      answer = r.answer;
+    } };
 
     ghost invariant = { λ r. Knows r.fact.known r.fact.tenant r.fact.actor r.fact.last
         (answered_run r.walk r.answer) };
@@ -177,7 +209,9 @@ impl<N: Naming> Begun<N> {
     }
 
     /// Evaluates up to the first ask or the end. It fails only for want of memory.
-    pub fn evaluate(self, alloc: Global) -> Result<Stage<N>, AllocError> {
+    pub fn evaluate(self, alloc: Global) -> Result<Stage<N>, AllocError>
+        ensures { IfOk result (IsReached self.actor (begun_run self.job)) }
+    {
         let Begun { fact, job } = self;
         let progress = start(alloc, &job)?;
         reach(alloc, fact, progress)
@@ -202,7 +236,9 @@ impl<N: Naming> Question<N> {
 
 impl<N: Naming> Answered<N> {
     /// Goes on with the answer, up to the next ask or the end. It fails only for want of memory.
-    pub fn resume(self, alloc: Global) -> Result<Stage<N>, AllocError> {
+    pub fn resume(self, alloc: Global) -> Result<Stage<N>, AllocError>
+        ensures { IfOk result (IsReached self.question.actor (told_run self)) }
+    {
         let Answered { fact, walk, answer } = self;
         let progress = walk.resume(alloc, answer)?;
         reach(alloc, fact, progress)
@@ -263,17 +299,22 @@ fn reach<N: Naming>(
     progress: Progress,
 ) -> Result<Stage<N>, AllocError>
     requires { Knows fact.known fact.tenant fact.actor fact.last (run_of progress) }
+    ensures { IfOk result (IsReached fact.actor (run_of progress)) }
 {
     match progress {
         Progress::Asks(walk) => {
+            walk.comes_from_its_job();
             let ask = Box::new(alloc, walk.ask().copy()?)?;
             Ok(Stage::Asks(Question { fact, walk, ask }))
         }
-        Progress::Ends(ending) => Ok(Stage::Ends(Finish {
-            fact,
-            ending: Box::new(alloc, ending)?,
-            printed: None,
-        })),
+        Progress::Ends(ending) => {
+            ending.comes_from_its_job();
+            Ok(Stage::Ends(Finish {
+                fact,
+                ending: Box::new(alloc, ending)?,
+                printed: None,
+            }))
+        }
     }
 }
 

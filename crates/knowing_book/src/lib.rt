@@ -4,7 +4,9 @@
 mod book;
 mod forms;
 mod keys;
+mod known;
+mod lasts;
 
 pub use book::{KnowingBook, Unasked, Unended};
 pub use forms::{Answered, Begun, Finish, Question, Stage};
-pub use history::{Naming, Opened};
+pub use known::{Naming, Opened};

@@ -15,7 +15,7 @@ use std::time::{Clock, Instant};
 use tenant_parts::ReadText;
 
 // The greatest length of a piece, and of a text that is read within an act.
-const PIECE: usize = 4_096;
+const PIECE: usize = 2_048;
 
 const SHORT_TEXT: usize = 2_048;
 
@@ -197,6 +197,7 @@ impl<'a, L: Ledger, N: Naming, R: Clock> Bench<'a, L, N, R> {
         let ended = self.book.end(&mut self.places.worker, finish, &mut beside);
         let took = begun.elapsed(self.clock)?.as_nanos();
         self.longest.end = self.longest.end.max(took);
+        beside.free(self.alloc);
         match ended {
             Ok(_) => Ok(()),
             Err(_) => Err(refused()),

@@ -3,7 +3,7 @@ use Rattle.std.proofs.Common.{◌≡◌, ℕ, ◌==◌, ◌≤◌, List, [], ◌
 use Rattle.std.proofs.Common.{Some, refl, sym, ap, ap₂, ◌∙◌, subst, arith, if◌then◌else◌}
 use Rattle.std.proofs.lemmas.Bool.Decides.{nat_tests}
 use Rattle.server_rules.specs.Ground.{Ground}
-use Rattle.server_rules.specs.Numbered.{entry}
+use Rattle.ref_table.specs.Numbered.{entry}
 use Rattle.server_rules.specs.Plan.{Deed, Outcome, refuses, leaves, tenant_opened, bytes_in}
 use Rattle.server_rules.specs.Machine.Turns.{turn_step, world_after, given, serve, bytes_given, whose}
 use Rattle.server_rules.specs.Machine.World.{TenantData, World, Stepped, accepted, refused, step}

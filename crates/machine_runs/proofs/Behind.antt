@@ -3,10 +3,10 @@ use Rattle.std.proofs.Common.{◌≡◌, ◌≢◌, List, [], ◌∷◌, ℕ, fa
 use Rattle.std.proofs.Common.{Err, refl, sym, ap, subst, ◌∙◌, IfErr, OnOk}
 use Rattle.repl_replies.specs.Replies.{ReplyData}
 use Rattle.server_rules.specs.Deeds.{drain_outcome}
-use Rattle.server_rules.specs.Numbered.{entry}
+use Rattle.ref_table.specs.Numbered.{entry}
 use Rattle.server_rules.specs.Ground.{Ground}
 use Rattle.server_rules.specs.Plan.{Deed, StepAnswer, Outcome, refuses, leaves, tenant_opened}
-use Rattle.server_rules.specs.Store.{Around, Store}
+use Rattle.ref_table.specs.Store.{Around, Store}
 use Rattle.server_rules.specs.Tenant.{Quiet}
 use Rattle.server_rules.specs.Honest.{honest_deed}
 use Rattle.server_rules.specs.Plan.{bytes_in}

@@ -1,7 +1,7 @@
 -- The turn of an actor gives no bytes.
 use Rattle.std.proofs.Common.{◌≡◌, ℕ, [], Option, Some, None, option_map, refl, sym, ap, subst, ◌∙◌}
 use Rattle.server_rules.specs.Ground.{Ground}
-use Rattle.server_rules.specs.Numbered.{part_under}
+use Rattle.ref_table.specs.Numbered.{part_under}
 use Rattle.server_rules.specs.Plan.{Deed, StepAnswer, Outcome, refuses, leaves}
 use Rattle.server_rules.specs.Honest.{honest_deed}
 use Rattle.server_rules.specs.Machine.Turns.{goes, turn_step, quiet_of}

@@ -3,7 +3,7 @@ use Rattle.std.proofs.Common.{◌≡◌, ◌≢◌, ℕ, ◌==◌, ◌∷◌, Bo
 use Rattle.std.proofs.Common.{option_and_then, refl, sym, ap, subst, ◌∙◌, if◌then◌else◌, nat_le}
 use Rattle.std.proofs.lemmas.Bool.{eq-eqb}
 use Rattle.server_rules.specs.Ground.{Ground}
-use Rattle.server_rules.specs.Numbered.{entry, part_under}
+use Rattle.ref_table.specs.Numbered.{entry, part_under}
 use Rattle.server_rules.specs.Plan.{Deed, StepAnswer, tenant_opened}
 use Rattle.server_rules.specs.Tenant.{unoccupied, seat_of, opened_quiet}
 use Rattle.server_rules.specs.Machine.Turns.{whose_step}

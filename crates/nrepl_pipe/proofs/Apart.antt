@@ -2,7 +2,7 @@
 use Rattle.std.proofs.Common.{◌≡◌, ◌≢◌, ℕ, ◌==◌, List, [], ◌∷◌, Bool, true, false, refl, sym, ap, ◌∙◌}
 use Rattle.std.proofs.Common.{Some, if◌then◌else◌}
 use Rattle.std.proofs.lemmas.Bool.{eqb-true, ne_eqb}
-use Rattle.server_rules.specs.Numbered.{Entry, part_under, without}
+use Rattle.ref_table.specs.Numbered.{Entry, part_under, without}
 
 pub part_under-without : {A : Type 0} (n m : ℕ) (es : List (Entry A)) → n ≢ m
     → part_under n (without m es) ≡ part_under n es

@@ -5,7 +5,7 @@ use Rattle.repl_asks.specs.Exchange.{AskData, AnswerData}
 use Rattle.server_rules.specs.Ground.{Ground}
 use Rattle.server_rules.specs.Request.{Hand, Run}
 use Rattle.server_rules.specs.Tenant.{ActorData, seat_of, Quiet, is_held, actor_state}
-use Rattle.server_rules.specs.Calls.{gives_up}
+use Rattle.ref_table.specs.Calls.{gives_up}
 use Rattle.server_rules.specs.Plan.{Outcome, refuses, leaves, form_finished, Plan}
 use Rattle.repl_asks.specs.Job.{EndingData}
 use Rattle.server_rules.specs.Plan.{quietly, with_step_spent}

@@ -6,12 +6,12 @@ use Rattle.std.specs.Prelude.{⊤}
 use Rattle.repl_asks.specs.Exchange.{AskData}
 use Rattle.repl_asks.specs.InteractionTree.{InteractionTree, finished, asks}
 use Rattle.repl_asks.specs.Leading as leading
-use Rattle.server_rules.specs.Numbered.{part_under}
+use Rattle.ref_table.specs.Numbered.{part_under}
 use Rattle.server_rules.specs.Ground.{Ground}
 use Rattle.server_rules.specs.Request.{Waiting, Hand, Run}
 use Rattle.server_rules.specs.Starting.{start_waiting, start_action, action_for}
 use Rattle.server_rules.specs.Machine.Ready.{has_waiting}
-use Rattle.server_rules.specs.Store.{Store}
+use Rattle.ref_table.specs.Store.{Store}
 use Rattle.server_rules.specs.Tenant.{ActorData, seat_of, Quiet, is_held}
 use Rattle.server_rules.specs.Plan.{Deed, starts, asks_for, ends, Outcome, refuses}
 use Rattle.repl_asks.specs.Job.{EndingData}

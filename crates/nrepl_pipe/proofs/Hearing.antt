@@ -4,7 +4,7 @@ use Rattle.std.proofs.Common.{if◌then◌else◌, Option, Some, None, refl, sym
 use Rattle.bencode_wire.specs.declared.fault.WireFault.{WireFault}
 use Rattle.repl_replies.specs.Replies.{ReplyData}
 use Rattle.server_rules.specs.Ground.{Ground}
-use Rattle.server_rules.specs.Store.{Store}
+use Rattle.ref_table.specs.Store.{Store}
 use Rattle.server_rules.specs.Tenant.{Quiet, is_held}
 use Rattle.server_rules.specs.Hearing.{stream_fault, hears_more, hearing_plan}
 use Rattle.server_rules.specs.Plan.{Outcome, refuses, leaves}

@@ -7,7 +7,7 @@ use Rattle.repl_replies.specs.Replies.{OriginData, ReplyData}
 use Rattle.repl_replies.specs.Operations as operations
 use Rattle.repl_replies.specs.Operations.{AskedData, OperationData}
 use Rattle.repl_sessions.specs.Named.{number_named}
-use Rattle.server_rules.specs.Numbered.{part_under}
+use Rattle.ref_table.specs.Numbered.{part_under}
 use Rattle.server_rules.specs.Ground.{Ground}
 use Rattle.server_rules.specs.Readings.{Readings, AreRight, message_limit}
 use Rattle.server_rules.specs.Request.{Waiting, ProgramText, code, file}

@@ -13,7 +13,7 @@ use Rattle.server_rules.specs.Readings.{ProgramData}
 use Rattle.server_rules.specs.Ground.{Ground}
 use Rattle.server_rules.specs.Request.{Waiting, ProgramText, code, file, Manner, Hand, each_form}
 use Rattle.server_rules.specs.Request.{each_form_elsewhere, last_form}
-use Rattle.server_rules.specs.Numbered.{part_under, with_part, without}
+use Rattle.ref_table.specs.Numbered.{part_under, with_part, without}
 use Rattle.server_rules.specs.Tenant.{ActorData, seat_of, Quiet, is_held, actor_state}
 use Rattle.server_rules.specs.Plan.{Outcome, refuses, leaves, Plan}
 use Rattle.server_rules.specs.Starting.{Started, next_begun, program_begun, elsewhere_begun}

@@ -2,7 +2,7 @@
 use Rattle.std.proofs.Common.{◌≡◌, ℕ, zero, suc, ◌≤◌, List, [], ◌∷◌, ◌++◌, map, length, refl, ap}
 use Rattle.std.proofs.Common.{◌∙◌}
 use Rattle.std.proofs.Common.{slice_set, slice_index_or, arith}
-use Rattle.private_cells.specs.Places.{changed_at}
+use Rattle.repl_values.specs.Places.{changed_at}
 
 pub map_set : {A B : Type 0} (g : A → B) (n : ℕ) (x : A) (xs : List A)
     → map g (slice_set xs n x) ≡ changed_at n (λ _. g x) (map g xs)

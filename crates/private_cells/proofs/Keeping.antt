@@ -6,7 +6,7 @@ use Rattle.std.proofs.Common.{Bool, true, false, nat_eq, if◌then◌else◌, le
 use Rattle.std.specs.Prelude.{◌&&◌}
 use lib.Dec.{eqb-zero-suc, eqb-suc-zero, eqb-suc-suc}
 use Rattle.value_data.specs.Datum.{Datum}
-use Rattle.private_cells.specs.Places.{changed_at}
+use Rattle.repl_values.specs.Places.{changed_at}
 use Rattle.private_cells.specs.Actions.{is_of}
 use Rattle.private_cells.specs.Agents.{AgentData, SentAction, ActionTurn, with_begun, begun}
 use Rattle.private_cells.specs.Agents.{at_rest}

@@ -9,7 +9,7 @@ use Rattle.std.proofs.lemmas.Bool.{eqb-true, ltb-true, ltb-false}
 use mathlib.Core.Logic.{inl, inr}
 use Rattle.value_data.specs.Datum.{Datum}
 use Rattle.repl_values.specs.Failure.{Failure}
-use Rattle.private_cells.specs.Places.{changed_at}
+use Rattle.repl_values.specs.Places.{changed_at}
 use Rattle.private_cells.specs.Atoms.{AtomsData, atom_value, equals, is_unchanged, with_atom_value}
 use Rattle.private_cells.specs.Atoms.{with_try}
 use Rattle.private_cells.specs.Agents.{AgentData, AgentsData, SentAction, ActionTurn, turn_by}

@@ -6,7 +6,7 @@ use Rattle.std.specs.Prelude.{nat_lt}
 use Rattle.std.specs.List.{list_any}
 use Rattle.value_data.specs.Datum.{Datum}
 use Rattle.repl_values.specs.Failure.{Failure}
-use Rattle.private_cells.specs.Places.{changed_at}
+use Rattle.repl_values.specs.Places.{changed_at}
 use Rattle.private_cells.specs.Actions.{ActionData, is_of}
 use Rattle.private_cells.specs.declared.awaiting.Await.{Await}
 

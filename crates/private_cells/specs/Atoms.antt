@@ -3,7 +3,7 @@ use Rattle.std.specs.Prelude.{ℕ, List, [], ◌∷◌, ◌++◌, Bool, false, i
 use Rattle.std.specs.Prelude.{Option, Some, None, slice_get}
 use Rattle.value_data.specs.Datum.{Datum}
 use Rattle.value_data.specs.Same.{same}
-use Rattle.private_cells.specs.Places.{changed_at}
+use Rattle.repl_values.specs.Places.{changed_at}
 
 pub record AtomsData : Type 0 where
   pub values : List Datum

@@ -1,4 +1,3 @@
-pub mod Places
 pub mod Atoms
 pub mod Actions
 pub mod Agents

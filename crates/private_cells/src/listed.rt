@@ -2,7 +2,7 @@
 ghost use Rattle.std.specs.Prelude.{◌≡◌, ℕ, ◌+◌, ◌<◌, ◌^◌, length, map, Some, None, true};
 ghost use Rattle.value_data.specs.Inside.View.{view};
 ghost use Rattle.repl_values.specs.Inside.FaultView.{failure_of};
-ghost use Rattle.private_cells.specs.Places.{changed_at};
+ghost use Rattle.repl_values.specs.Places.{changed_at};
 ghost use Rattle.private_cells.specs.Agents.{ActionTurn, with_begun, restarted};
 ghost use Rattle.private_cells.specs.Inside.Seen.{cells_view, sent_view};
 ghost use Rattle.private_cells.specs.Inside.Turns.{turn_at, open_at, open_sum, first_session};

@@ -5,7 +5,7 @@ use Rattle.std.proofs.Common.{Result, Ok, Err, OnErr}
 use Rattle.std.proofs.lemmas.Bool.{cases_eq}
 use Rattle.slab.specs.Slab.{Slab, get, with_value, Updates}
 use Rattle.slab.proofs.SlabLemmas.{Updates-with_value}
-use Rattle.server_rules.specs.Versions.{Ref}
+use Rattle.ref_history.specs.Versioned.{Ref}
 use Rattle.ref_history.specs.Changes.{Standing, IsAbsent, SameRefs, SameBut, Changed}
 use Rattle.ref_history.specs.Kept.{KeptStands}
 use Rattle.ref_history.specs.declared.kept_ref.KeptRef.{KeptRef}

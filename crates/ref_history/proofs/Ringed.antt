@@ -16,8 +16,8 @@ use Rattle.version_rings.specs.Rings.{Rings, versions, SameBut, NodesAfter}
 use Rattle.version_rings.specs.declared.node.RingId.{RingId}
 use Rattle.value_data.specs.Datum.{Datum}
 use Rattle.std.proofs.Common.{leb, is_some, option_map}
-use Rattle.server_rules.specs.Versions.{at_point, readable}
-use Rattle.server_rules.specs.Versions.{Ref, grows, with_version, Version}
+use Rattle.ref_history.specs.Versioned.{at_point, readable}
+use Rattle.ref_history.specs.Versioned.{Ref, grows, with_version, Version}
 use Rattle.ref_history.specs.Changes.{IsAbsent, SameRefs, Changed}
 use Rattle.ref_history.specs.Changes as change
 use Rattle.ref_history.specs.Rung.{RingKept, Kept, ref_at, ref_in, StandsIn, versions_of}

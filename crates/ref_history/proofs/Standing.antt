@@ -11,7 +11,7 @@ use Rattle.std.proofs.lemmas.List.Folds.{find_at}
 use Rattle.std.proofs.lemmas.Option.{slice_get_past, slice_get-get_or}
 use Rattle.value_data.specs.Inside.View.{view}
 use Rattle.value_data.specs.Datum.{Datum}
-use Rattle.server_rules.specs.Versions.{Ref, at_point, readable, grows, with_version}
+use Rattle.ref_history.specs.Versioned.{Ref, at_point, readable, grows, with_version}
 use Rattle.ref_history.specs.Kept.{KeptStands, version_of, content_in}
 use Rattle.ref_history.specs.declared.kept_ref.KeptVersion.{KeptVersion}
 use Rattle.ref_history.specs.declared.kept_ref.KeptRef.{KeptRef}

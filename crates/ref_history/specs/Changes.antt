@@ -1,6 +1,6 @@
 -- What becomes of the refs that a history stands for.
 use Rattle.std.specs.Prelude.{◌≢◌, ◌↔◌}
-use Rattle.server_rules.specs.Versions.{Ref}
+use Rattle.ref_history.specs.Versioned.{Ref}
 use Rattle.ref_history.specs.declared.ref_id.RefId.{RefId}
 
 -- which ref an id stands for

@@ -1,7 +1,7 @@
 -- Refs and versions as the calls name them.
 use Rattle.std.specs.Prelude.{ℕ}
 use Rattle.value_data.specs.Datum.{Datum}
-use Rattle.server_rules.specs.Versions.{Version, Ref, new_ref}
+use Rattle.ref_history.specs.Versioned.{Version, Ref, new_ref}
 use Rattle.ref_history.specs.declared.ref_id.Bounds.{Bounds}
 
 abbrev pub version : ℕ → Datum → Version

@@ -1,7 +1,7 @@
 -- What is kept under the ids stands for the refs.
 use Rattle.std.specs.Prelude.{◌≡◌, Some}
 use Rattle.slab.specs.Slab.{get}
-use Rattle.server_rules.specs.Versions.{Ref}
+use Rattle.ref_history.specs.Versioned.{Ref}
 use Rattle.ref_history.specs.Kept.{KeptStands, HasRoom}
 use Rattle.ref_history.specs.declared.kept_ref.KeptRef.{KeptRef}
 use Rattle.ref_history.specs.declared.ref_id.RefId.{RefId}

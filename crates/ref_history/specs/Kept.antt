@@ -4,7 +4,7 @@ use Rattle.std.specs.VecDeque.{deque_len, deque_capacity}
 use Rattle.std.specs.Prelude.{ℕ, Option, option_map, slice_get}
 use Rattle.value_data.specs.Datum.{Datum}
 use Rattle.value_data.specs.Inside.View.{view}
-use Rattle.server_rules.specs.Versions.{Version, Ref, grows}
+use Rattle.ref_history.specs.Versioned.{Version, Ref, grows}
 use Rattle.ref_history.specs.Effects.{version, bounds_of}
 use Rattle.ref_history.specs.declared.kept_ref.KeptVersion.{KeptVersion}
 use Rattle.ref_history.specs.declared.kept_ref.KeptRef.{KeptRef}

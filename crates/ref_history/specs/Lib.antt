@@ -1,3 +1,4 @@
+pub mod Versioned
 pub mod Changes
 pub mod Effects
 pub mod Kept

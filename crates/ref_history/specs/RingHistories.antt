@@ -1,5 +1,5 @@
 -- What is kept in rings stands for the refs.
-use Rattle.server_rules.specs.Versions.{Ref}
+use Rattle.ref_history.specs.Versioned.{Ref}
 use Rattle.ref_history.specs.Rung.{StandsIn, HasRoomIn}
 use Rattle.ref_history.specs.declared.ref_id.RefId.{RefId}
 use Rattle.ref_history.specs.declared.ring_history.RingHistory.{RingHistory}

@@ -5,7 +5,7 @@ use Rattle.version_rings.specs.Versions.{is_kept}
 use Rattle.version_rings.specs.Versions as ring
 use Rattle.version_rings.specs.Rings.{Rings, versions}
 use Rattle.version_rings.specs.declared.node.RingId.{RingId}
-use Rattle.server_rules.specs.Versions.{Version, Ref, grows}
+use Rattle.ref_history.specs.Versioned.{Version, Ref, grows}
 use Rattle.ref_history.specs.Effects.{version, bounds_of}
 use Rattle.ref_history.specs.declared.ref_id.RefId.{RefId}
 use Rattle.ref_history.specs.declared.ring_ref.RingRef.{RingRef}

@@ -3,7 +3,7 @@ ghost use Rattle.std.specs.Prelude.{◌≡◌, ◌↔◌, ◌<◌, ◌∷◌, ta
 ghost use Rattle.std.specs.Prelude.{IsSome, IfSome, OnOk, option_map, option_and_then};
 ghost use Rattle.std.specs.VecDeque.{deque_len, deque_capacity};
 ghost use Rattle.value_data.specs.Inside.View.{view};
-ghost use Rattle.server_rules.specs.Versions.{Ref, with_version, with_failed_read, grows, readable};
+ghost use Rattle.ref_history.specs.Versioned.{Ref, with_version, with_failed_read, grows, readable};
 ghost use Rattle.ref_history.specs.Effects.{version, first_ref};
 ghost use Rattle.ref_history.specs.Kept.{KeptStands, HasRoom, content_in};
 

@@ -24,7 +24,7 @@ pub struct RingHistory {
 
 impl RingHistory {
     ghost use Rattle.std.specs.Prelude.{◌≡◌, IsTrue};
-    ghost use Rattle.server_rules.specs.Versions.{Ref, grows};
+    ghost use Rattle.ref_history.specs.Versioned.{Ref, grows};
     ghost use Rattle.ref_history.specs.Changes.{IsAbsent};
     ghost use Rattle.ref_history.specs.RingHistories.{RingStands};
     ghost use Rattle.ref_history.specs.Rung.{ref_in, RingKept, versions_of};
@@ -63,7 +63,7 @@ impl RingHistory {
 }
 
 impl RingHistory {
-    ghost use Rattle.server_rules.specs.Versions.{with_failed_read};
+    ghost use Rattle.ref_history.specs.Versioned.{with_failed_read};
     ghost use Rattle.ref_history.specs.Changes.{Changed};
     ghost use Rattle.ref_history.specs.RingHistories.{RingStands};
 

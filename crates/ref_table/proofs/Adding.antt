@@ -3,9 +3,9 @@ use Rattle.std.proofs.Common.{◌≡◌, ℕ, ◌+◌, List, [], ◌∷◌, Opti
 use Rattle.std.proofs.Common.{◌∙◌, subst}
 use Rattle.value_data.specs.Datum.{Datum}
 use Rattle.repl_asks.specs.Transactions.{ChangeData}
-use Rattle.server_rules.specs.Versions.{Ref, with_version}
-use Rattle.server_rules.specs.Store.{Store, with_changed_ref}
-use Rattle.server_rules.specs.Commit.{with_changes, with_raised_counter}
+use Rattle.ref_history.specs.Versioned.{Ref, with_version}
+use Rattle.ref_table.specs.Store.{Store, with_changed_ref}
+use Rattle.ref_table.specs.Commit.{with_changes, with_raised_counter}
 use Rattle.ref_history.specs.Changes.{Changed}
 use Rattle.ref_history.specs.Effects.{version}
 use Rattle.ref_history.specs.declared.ref_id.RefId.{RefId}

@@ -11,15 +11,14 @@ use Rattle.repl_asks.specs.Exchange.{AnswerData, verdict, committed, faulted}
 use Rattle.repl_asks.specs.Inside.View.{name_view, change_view, commuted_view}
 use Rattle.repl_asks.specs.declared.intent.Change.{Change}
 use Rattle.repl_asks.specs.declared.intent.Commuted.{Commuted}
-use Rattle.server_rules.specs.Numbered.{Entry}
-use Rattle.server_rules.specs.Versions.{Ref}
-use Rattle.server_rules.specs.Store.{Store, ref_named, left_attempt}
-use Rattle.server_rules.specs.Performed.{as_was, tells}
-use Rattle.server_rules.specs.Commit.{guarded_refs, touched_refs, changing_refs, all_there, all_fit}
-use Rattle.server_rules.specs.Commit.{all_take, refs_are_distinct, intent_fits, is_newer_ref, any_newer}
-use Rattle.server_rules.specs.Commit.{all_folded, with_changes, with_raised_counter, with_all}
-use Rattle.server_rules.specs.Commit.{concluded_commit, checked_commit, commit_by}
-use Rattle.server_rules.proofs.Calls.{folded-names}
+use Rattle.ref_table.specs.Numbered.{Entry}
+use Rattle.ref_history.specs.Versioned.{Ref}
+use Rattle.ref_table.specs.Store.{Store, ref_named, left_attempt}
+use Rattle.ref_table.specs.Performed.{as_was, tells}
+use Rattle.ref_table.specs.Commit.{guarded_refs, touched_refs, changing_refs, all_there, all_fit}
+use Rattle.ref_table.specs.Commit.{all_take, refs_are_distinct, intent_fits, is_newer_ref, any_newer}
+use Rattle.ref_table.specs.Commit.{all_folded, with_changes, with_raised_counter, with_all}
+use Rattle.ref_table.specs.Commit.{concluded_commit, checked_commit, commit_by}
 use Rattle.ref_history.specs.declared.ref_id.RefId.{RefId}
 use Rattle.ref_table.specs.Refs.{Refs, store_of, refs_after}
 use Rattle.ref_table.specs.Directory.{id_named, all_named, ids_named}
@@ -29,6 +28,7 @@ use Rattle.ref_table.specs.Standing.{TableStands}
 use Rattle.ref_table.specs.Told.{Performs}
 use Rattle.ref_table.specs.declared.directory.Directory.{Directory}
 use Rattle.ref_table.specs.declared.table.RefTable.{RefTable}
+use Rattle.ref_table.proofs.Folds.{folded-names}
 use Rattle.ref_table.proofs.Once.{both_true, distinct-ids}
 use Rattle.ref_table.proofs.Rooms.{same_id}
 use Rattle.ref_table.proofs.Tables.{all-named, seen-stands}

@@ -22,8 +22,8 @@ use Rattle.repl_asks.specs.Transactions.{RefNameData, ChangeData, CommutedData}
 use Rattle.repl_asks.specs.Inside.View.{name_view, change_view, commuted_view}
 use Rattle.repl_asks.specs.declared.intent.Change.{Change}
 use Rattle.repl_asks.specs.declared.intent.Commuted.{Commuted}
-use Rattle.server_rules.specs.Commit.{takes_its_arguments, all_take, result_of, folded_from}
-use Rattle.server_rules.specs.Commit.{all_folded}
+use Rattle.ref_table.specs.Commit.{takes_its_arguments, all_take, result_of, folded_from}
+use Rattle.ref_table.specs.Commit.{all_folded}
 use Rattle.ref_table.proofs.Distinct.{drop-item}
 use Rattle.ref_table.proofs.Once.{both_true}
 

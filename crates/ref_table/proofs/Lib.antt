@@ -5,6 +5,7 @@ pub mod Tables
 pub mod Distinct
 pub mod Rooms
 pub mod Adding
+pub mod Folds
 pub mod Committing
 pub mod Once
 pub mod Commuting

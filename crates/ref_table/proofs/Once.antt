@@ -8,7 +8,7 @@ use Rattle.value_data.specs.Datum.{Datum, OwnerData, shared, tenant}
 use Rattle.repl_asks.specs.Transactions.{RefNameData, ChangeData, same_name}
 use Rattle.repl_asks.specs.Inside.View.{change_view}
 use Rattle.repl_asks.specs.declared.intent.Change.{Change}
-use Rattle.server_rules.specs.Commit.{refs_are_distinct}
+use Rattle.ref_table.specs.Commit.{refs_are_distinct}
 use Rattle.value_data.specs.Same.{same_owner}
 use Rattle.ref_history.specs.declared.ref_id.RefId.{RefId}
 use Rattle.ref_table.specs.Directory.{refs_of, id_named, all_named, with_id, ids_named}

@@ -6,7 +6,7 @@ use Rattle.std.proofs.Common.{if◌then◌else◌}
 use Rattle.std.specs.Prelude.{◌⊎◌, option_map}
 use Rattle.std.proofs.lemmas.Bool.{cases_Bool, eqb-true, eq-eqb}
 use Rattle.value_data.specs.Datum.{OwnerData, shared, tenant}
-use Rattle.server_rules.specs.Numbered.{changed_at}
+use Rattle.ref_table.specs.Numbered.{changed_at}
 use Rattle.ref_history.specs.declared.ref_id.RefId.{RefId}
 
 pub numbers : (n m : ℕ) → (n ≡ m) ⊎ (n ≢ m)

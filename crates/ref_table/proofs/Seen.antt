@@ -3,9 +3,9 @@ use Rattle.std.proofs.Common.{◌≡◌, ◌≢◌, ℕ, List, Bool, true, false
 use Rattle.std.proofs.Common.{ap, ◌∙◌, ◌==◌, inl, inr, slice_get, if◌then◌else◌}
 use Rattle.std.proofs.lemmas.Bool.{cases_Bool, eqb-true, ne_eqb}
 use Rattle.value_data.specs.Datum.{OwnerData, shared, tenant}
-use Rattle.server_rules.specs.Numbered.{changed_at}
-use Rattle.server_rules.specs.Versions.{Ref}
-use Rattle.server_rules.specs.Store.{Store, ref_of, changed_of}
+use Rattle.ref_table.specs.Numbered.{changed_at}
+use Rattle.ref_history.specs.Versioned.{Ref}
+use Rattle.ref_table.specs.Store.{Store, ref_of, changed_of}
 use Rattle.ref_history.specs.Changes.{Standing}
 use Rattle.ref_history.specs.declared.ref_id.RefId.{RefId}
 use Rattle.ref_table.specs.Refs.{Refs, owned_with, refs_after}

@@ -3,8 +3,8 @@ use Rattle.std.proofs.Common.{◌≡◌, ◌≢◌, ℕ, suc, List, [], ◌∷�
 use Rattle.std.proofs.Common.{refl, sym, ap, ◌∙◌, subst, inl, inr, slice_get}
 use Rattle.std.specs.Prelude.{option_map, ◌⊎◌, ◌↔◌}
 use Rattle.value_data.specs.Datum.{OwnerData}
-use Rattle.server_rules.specs.Versions.{Ref}
-use Rattle.server_rules.specs.Numbered.{changed_at}
+use Rattle.ref_history.specs.Versioned.{Ref}
+use Rattle.ref_table.specs.Numbered.{changed_at}
 use Rattle.ref_history.specs.Changes.{Standing, IsAbsent, SameRefs, SameBut, Changed}
 use Rattle.ref_history.specs.declared.ref_id.RefId.{RefId}
 use Rattle.ref_table.specs.Standing.{Matches, StandFor, AreApart, KeepsNoMore}

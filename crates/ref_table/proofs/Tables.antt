@@ -7,10 +7,10 @@ use mathlib.Core.Path.{fun_ext}
 use Rattle.std.proofs.lemmas.Bool.{eq-eqb, ne_eqb}
 use Rattle.value_data.specs.Datum.{OwnerData, shared, tenant}
 use Rattle.repl_asks.specs.Transactions.{RefNameData}
-use Rattle.server_rules.specs.Numbered.{Entry}
-use Rattle.server_rules.specs.Versions.{Ref}
-use Rattle.server_rules.specs.Store.{Store, ref_named, with_changed_ref}
-use Rattle.server_rules.specs.Commit.{all_there}
+use Rattle.ref_table.specs.Numbered.{Entry}
+use Rattle.ref_history.specs.Versioned.{Ref}
+use Rattle.ref_table.specs.Store.{Store, ref_named, with_changed_ref}
+use Rattle.ref_table.specs.Commit.{all_there}
 use Rattle.value_data.specs.Same.{same_owner}
 use Rattle.ref_history.specs.Changes.{Standing, IsAbsent, SameRefs, SameBut, Changed}
 use Rattle.ref_history.specs.declared.ref_id.RefId.{RefId}

@@ -7,10 +7,10 @@ use Rattle.value_data.specs.Datum as datum
 use Rattle.value_data.specs.Datum.{Datum, OwnerData, shared, tenant}
 use Rattle.repl_asks.specs.Transactions.{RefNameData}
 use Rattle.repl_asks.specs.Exchange.{value, reading, found, retry}
-use Rattle.server_rules.specs.Numbered.{Entry}
-use Rattle.server_rules.specs.Versions.{Ref, new_ref, with_failed_read}
-use Rattle.server_rules.specs.Store.{ref_named}
-use Rattle.server_rules.specs.Calls.{read_at, bound_set, performed_make}
+use Rattle.ref_table.specs.Numbered.{Entry}
+use Rattle.ref_history.specs.Versioned.{Ref, new_ref, with_failed_read}
+use Rattle.ref_table.specs.Store.{ref_named}
+use Rattle.ref_table.specs.Calls.{read_at, bound_set, performed_make}
 use Rattle.ref_history.specs.Changes.{SameRefs, Changed}
 use Rattle.ref_history.specs.declared.ref_id.RefId.{RefId}
 use Rattle.ref_table.specs.Refs.{Refs, store_of, refs_after, with_ref}

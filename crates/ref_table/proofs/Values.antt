@@ -12,16 +12,16 @@ use Rattle.repl_values.specs.Failure.{Failure, ◌>>=◌}
 use Rattle.repl_asks.specs.Transactions.{RefNameData, ChangeData, CommutedData, IntentData}
 use Rattle.repl_asks.specs.Transactions.{same_name}
 use Rattle.repl_asks.specs.Exchange.{verdict, committed}
-use Rattle.server_rules.specs.Versions.{Version, Ref, with_version}
-use Rattle.server_rules.specs.Store.{Store, ref_of, ref_named, newest_in_ref, newest_value}
-use Rattle.server_rules.specs.Store.{changed_of, with_changed_ref, left_attempt}
-use Rattle.server_rules.specs.Commit.{guarded_refs, touched_refs, changing_refs, all_there, all_fit}
-use Rattle.server_rules.specs.Commit.{all_take, refs_are_distinct, intent_fits, is_newer_ref}
+use Rattle.ref_history.specs.Versioned.{Version, Ref, with_version}
+use Rattle.ref_table.specs.Store.{Store, ref_of, ref_named, newest_in_ref, newest_value}
+use Rattle.ref_table.specs.Store.{changed_of, with_changed_ref, left_attempt}
+use Rattle.ref_table.specs.Commit.{guarded_refs, touched_refs, changing_refs, all_there, all_fit}
+use Rattle.ref_table.specs.Commit.{all_take, refs_are_distinct, intent_fits, is_newer_ref}
 use Rattle.value_data.specs.Same.{same_owner}
-use Rattle.server_rules.specs.Commit.{any_newer, folded_from, all_folded, with_changes}
-use Rattle.server_rules.specs.Commit.{with_raised_counter, with_all, concluded_commit}
-use Rattle.server_rules.specs.Commit.{checked_commit, commit_by}
-use Rattle.server_rules.specs.Numbered.{changed_at}
+use Rattle.ref_table.specs.Commit.{any_newer, folded_from, all_folded, with_changes}
+use Rattle.ref_table.specs.Commit.{with_raised_counter, with_all, concluded_commit}
+use Rattle.ref_table.specs.Commit.{checked_commit, commit_by}
+use Rattle.ref_table.specs.Numbered.{changed_at}
 use Rattle.ref_table.proofs.Owners.{slice_get-changed, slice_get-changed_other}
 use Rattle.ref_table.proofs.Once.{both_true, same_owner-true, same_owner-refl}
 use Rattle.ref_table.proofs.Committing.{changed-names}

@@ -2,7 +2,7 @@
 use Rattle.std.specs.Prelude.{ℕ, Bool, ◌&&◌}
 use Rattle.std.specs.Ordering.{eq_by_cmp}
 use Rattle.repl_asks.specs.Transactions.{IntentData}
-use Rattle.server_rules.specs.Commit.{touched_refs, changing_refs, all_fit, all_take}
+use Rattle.ref_table.specs.Commit.{touched_refs, changing_refs, all_fit, all_take}
 use Rattle.ref_history.specs.contracts.ref_id.RefIdOrd.TheImpl as order
 use Rattle.ref_table.specs.Directory.{all_named, ids_named}
 use Rattle.ref_table.specs.Placing.{all_distinct}

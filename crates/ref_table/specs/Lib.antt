@@ -1,3 +1,8 @@
+pub mod Numbered
+pub mod Store
+pub mod Performed
+pub mod Commit
+pub mod Calls
 pub mod Refs
 pub mod Directory
 pub mod Standing

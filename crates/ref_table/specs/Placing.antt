@@ -6,7 +6,7 @@ use Rattle.value_data.specs.Datum.{Datum}
 use Rattle.value_data.specs.Inside.View.{view}
 use Rattle.repl_values.specs.Failure.{Failure, ◌>>=◌}
 use Rattle.repl_asks.specs.Transactions.{ChangeData}
-use Rattle.server_rules.specs.Versions.{Ref, with_version}
+use Rattle.ref_history.specs.Versioned.{Ref, with_version}
 use Rattle.ref_history.specs.Changes.{Changed}
 use Rattle.ref_history.specs.Effects.{version}
 use Rattle.ref_history.specs.declared.ref_id.RefId.{RefId}

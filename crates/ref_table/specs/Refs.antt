@@ -1,9 +1,9 @@
 -- The refs of all owners, and what a tenant sees of them.
 use Rattle.std.specs.Prelude.{ℕ, ◌==◌, List, [], ◌∷◌, ◌++◌, if◌then◌else◌}
 use Rattle.value_data.specs.Datum.{OwnerData, shared, tenant}
-use Rattle.server_rules.specs.Numbered.{Entry}
-use Rattle.server_rules.specs.Versions.{Ref}
-use Rattle.server_rules.specs.Store.{Store}
+use Rattle.ref_table.specs.Numbered.{Entry}
+use Rattle.ref_history.specs.Versioned.{Ref}
+use Rattle.ref_table.specs.Store.{Store}
 use Rattle.value_data.specs.Same.{same_owner}
 
 pub record Refs : Type 0 where

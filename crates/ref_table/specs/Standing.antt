@@ -1,7 +1,7 @@
 -- What a table stands for: the refs of all owners, each with all its versions.
 use Rattle.std.specs.Prelude.{◌≡◌, ℕ, List, Option, None, Some, ⊤, slice_get}
 use Rattle.value_data.specs.Datum.{OwnerData}
-use Rattle.server_rules.specs.Versions.{Ref}
+use Rattle.ref_history.specs.Versioned.{Ref}
 use Rattle.ref_history.specs.Changes.{Standing}
 use Rattle.ref_history.specs.declared.ref_id.RefId.{RefId}
 use Rattle.ref_table.specs.Refs.{Refs}

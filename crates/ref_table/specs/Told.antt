@@ -8,9 +8,9 @@ use Rattle.repl_asks.specs.Exchange.{AnswerData, value, reading, verdict, commit
 use Rattle.repl_asks.specs.Exchange.{faulted}
 use Rattle.repl_asks.specs.Inside.View.{reading_view}
 use Rattle.repl_asks.specs.declared.answer.Reading.{Reading}
-use Rattle.server_rules.specs.Versions.{Ref}
-use Rattle.server_rules.specs.Store.{Store}
-use Rattle.server_rules.specs.Performed.{Performed}
+use Rattle.ref_history.specs.Versioned.{Ref}
+use Rattle.ref_table.specs.Store.{Store}
+use Rattle.ref_table.specs.Performed.{Performed}
 use Rattle.ref_history.specs.declared.ref_id.RefId.{RefId}
 use Rattle.ref_table.specs.Refs.{Refs, refs_after}
 use Rattle.ref_table.specs.Standing.{TableStands}

@@ -3,7 +3,7 @@ ghost use Rattle.std.specs.Prelude.{◌≡◌, map};
 ghost use Rattle.std.specs.List.{list_all};
 ghost use Rattle.value_data.specs.Inside.View.{view, owner_view};
 ghost use Rattle.repl_asks.specs.Inside.View.{change_view, commute_view, commuted_view};
-ghost use Rattle.server_rules.specs.Commit.{all_fit, takes_its_arguments, all_take};
+ghost use Rattle.ref_table.specs.Commit.{all_fit, takes_its_arguments, all_take};
 ghost use Rattle.repl_asks.specs.Transactions.{may_hold};
 
 use repl_asks::{Change, Commute, Commuted};

@@ -5,10 +5,10 @@ ghost use Rattle.value_data.specs.Inside.View.{view};
 ghost use Rattle.repl_values.specs.Inside.FaultView.{Gives};
 ghost use Rattle.core_functions.specs.Meaning.{meaning};
 ghost use Rattle.repl_asks.specs.Inside.View.{name_view, change_view, commute_view, commuted_view};
-ghost use Rattle.server_rules.specs.Numbered.{Entry};
-ghost use Rattle.server_rules.specs.Store.{newest_value};
-ghost use Rattle.server_rules.specs.Commit.{takes_its_arguments, all_take, result_of, folded_value};
-ghost use Rattle.server_rules.specs.Commit.{folded_from, all_folded};
+ghost use Rattle.ref_table.specs.Numbered.{Entry};
+ghost use Rattle.ref_table.specs.Store.{newest_value};
+ghost use Rattle.ref_table.specs.Commit.{takes_its_arguments, all_take, result_of, folded_value};
+ghost use Rattle.ref_table.specs.Commit.{folded_from, all_folded};
 ghost use Rattle.ref_table.specs.Refs.{Refs, store_of};
 ghost use Rattle.ref_table.specs.Standing.{TableStands};
 

@@ -5,9 +5,9 @@ ghost use Rattle.std.specs.Prelude.{◌≡◌, ◌≢◌, ℕ, Some, Ok, false, 
 ghost use Rattle.value_data.specs.Datum.{Datum};
 ghost use Rattle.repl_asks.specs.Transactions.{RefNameData, ChangeData, CommutedData, IntentData};
 ghost use Rattle.repl_asks.specs.Exchange.{verdict, committed};
-ghost use Rattle.server_rules.specs.Store.{Store, ref_named, newest_value};
-ghost use Rattle.server_rules.specs.Commit.{guarded_refs, changing_refs, is_newer_ref, folded_from};
-ghost use Rattle.server_rules.specs.Commit.{commit_by};
+ghost use Rattle.ref_table.specs.Store.{Store, ref_named, newest_value};
+ghost use Rattle.ref_table.specs.Commit.{guarded_refs, changing_refs, is_newer_ref, folded_from};
+ghost use Rattle.ref_table.specs.Commit.{commit_by};
 
 /// What was committed met no version from after its read point of a ref that it set or ensured.
 pub fn committed_met_nothing_newer()

@@ -3,7 +3,7 @@ ghost use Rattle.std.specs.Prelude.{◌≡◌, [], ◌++◌, map, All, IfOk, OnO
 ghost use Rattle.std.specs.List.{list_any};
 ghost use Rattle.std.specs.Ordering.{eq_by_cmp};
 ghost use Rattle.repl_asks.specs.Inside.View.{name_view, change_view, intent_view};
-ghost use Rattle.server_rules.specs.Commit.{changing_refs};
+ghost use Rattle.ref_table.specs.Commit.{changing_refs};
 ghost use Rattle.ref_history.specs.Changes.{SameRefs};
 ghost use Rattle.ref_table.specs.Directory.{id_named, with_id, ids_named};
 ghost use Rattle.ref_table.specs.Placing.{placed_view, places_of, all_distinct, HaveRoom, AddsAll};

@@ -3,10 +3,10 @@ ghost use Rattle.std.specs.Prelude.{◌≡◌, ℕ, List, Some, option_map, IfOk
 ghost use Rattle.repl_asks.specs.Transactions.{RefNameData};
 ghost use Rattle.repl_asks.specs.Exchange.{reading, found};
 ghost use Rattle.repl_asks.specs.Inside.View.{name_view, reading_view};
-ghost use Rattle.server_rules.specs.Numbered.{Entry, part_under as point_found};
-ghost use Rattle.server_rules.specs.Versions.{Ref, readable, newest};
-ghost use Rattle.server_rules.specs.Store.{ref_named};
-ghost use Rattle.server_rules.specs.Calls.{performed, read_at, reads, sets_least, sets_most};
+ghost use Rattle.ref_table.specs.Numbered.{Entry, part_under as point_found};
+ghost use Rattle.ref_history.specs.Versioned.{Ref, readable, newest};
+ghost use Rattle.ref_table.specs.Store.{ref_named};
+ghost use Rattle.ref_table.specs.Calls.{performed, read_at, reads, sets_least, sets_most};
 ghost use Rattle.ref_history.specs.Effects.{bounds_of};
 ghost use Rattle.ref_table.specs.Refs.{Refs, store_of};
 ghost use Rattle.ref_table.specs.Directory.{id_named, own_id};

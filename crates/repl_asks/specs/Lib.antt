@@ -1,6 +1,7 @@
 pub mod Namespaces
 pub mod Sends
 pub mod Transactions
+pub mod Accesses
 pub mod Exchange
 pub mod Job
 pub mod InteractionTree

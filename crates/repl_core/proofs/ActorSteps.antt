@@ -12,9 +12,9 @@ use Rattle.repl_replies.specs.Replies.{OriginData, ReplyData}
 use Rattle.repl_sessions.specs.State.{StateData, in_namespace}
 use Rattle.value_data.specs.Datum.{Datum, nil, Items, no_items, item}
 use Rattle.repl_replies.specs.Fields.{text_of}
-use Rattle.server_rules.specs.Numbered.{Entry, part_under, with_part, without}
-use Rattle.server_rules.specs.Store.{Store, left_attempt}
-use Rattle.server_rules.specs.Calls.{performed, given_up}
+use Rattle.ref_table.specs.Numbered.{Entry, part_under, with_part, without}
+use Rattle.ref_table.specs.Store.{Store, left_attempt}
+use Rattle.ref_table.specs.Calls.{performed, given_up}
 use Rattle.server_rules.specs.Ground.{Ground}
 use Rattle.server_rules.specs.Request.{Waiting, Manner, each_form, each_form_elsewhere, last_form}
 use Rattle.server_rules.specs.Request.{of_action, ProgramText, code, file, Hand, Run}

@@ -8,13 +8,13 @@ use Rattle.value_data.specs.Datum.{Datum, OwnerData, shared, tenant}
 use Rattle.repl_asks.specs.Transactions.{RefNameData}
 use Rattle.repl_asks.specs.Exchange as exchange
 use Rattle.repl_asks.specs.Exchange.{AskData, AnswerData, begin, read, reading, found}
-use Rattle.store_calls.specs.Arguments.{is_shared}
+use Rattle.evaluation_rules.specs.Arguments.{is_shared}
 use Rattle.repl_walker.specs.Agreeing.{IsToldBy, names_shared}
-use Rattle.server_rules.specs.Numbered.{Entry, part_under, without}
-use Rattle.server_rules.specs.Versions.{Ref, readable, with_failed_read, with_least, with_most}
-use Rattle.server_rules.specs.Store.{Store, ref_of, ref_named, with_changed_ref}
-use Rattle.server_rules.specs.Calls.{performed, performed_begin, read_at, read_by, bound_set}
-use Rattle.server_rules.specs.Calls.{number_told, count_told}
+use Rattle.ref_table.specs.Numbered.{Entry, part_under, without}
+use Rattle.ref_history.specs.Versioned.{Ref, readable, with_failed_read, with_least, with_most}
+use Rattle.ref_table.specs.Store.{Store, ref_of, ref_named, with_changed_ref}
+use Rattle.ref_table.specs.Calls.{performed, performed_begin, read_at, read_by, bound_set}
+use Rattle.ref_table.specs.Calls.{number_told, count_told}
 use Rattle.server_rules.specs.Asking.{call_of, answer_to}
 use Rattle.server_rules.specs.Machine.World.{TenantData, World}
 use Rattle.server_rules.specs.Ground.{Ground}

@@ -7,12 +7,12 @@ use Rattle.std.specs.List.{AllByRecursion}
 use Rattle.repl_asks.specs.Transactions.{RefNameData}
 use Rattle.repl_asks.specs.Exchange as exchange
 use Rattle.repl_asks.specs.Exchange.{AskData, AnswerData, Exchanged, begin, read, reading}
-use Rattle.store_calls.specs.Arguments.{is_shared}
+use Rattle.evaluation_rules.specs.Arguments.{is_shared}
 use Rattle.repl_walker.specs.Agreeing.{names_shared, IsToldBy, AreToldBy}
-use Rattle.server_rules.specs.Versions.{Ref}
-use Rattle.server_rules.specs.Calls.{number_told, performed}
+use Rattle.ref_history.specs.Versioned.{Ref}
+use Rattle.ref_table.specs.Calls.{number_told, performed}
 use Rattle.server_rules.specs.Ground.{Ground}
-use Rattle.server_rules.specs.Numbered.{part_under}
+use Rattle.ref_table.specs.Numbered.{part_under}
 use Rattle.server_rules.specs.Request.{Run}
 use Rattle.server_rules.specs.Tenant.{seat_of}
 use Rattle.server_rules.specs.Asking.{answer_to, call_of}

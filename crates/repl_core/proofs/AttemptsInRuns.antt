@@ -10,7 +10,7 @@ use Rattle.repl_asks.specs.Transactions.{RefNameData, same_name}
 use Rattle.repl_asks.specs.Exchange as exchange
 use Rattle.repl_asks.specs.Exchange.{AskData, AnswerData, Exchanged, read}
 use Rattle.repl_asks.specs.Leading.{AreItsAsks}
-use Rattle.store_calls.specs.Arguments.{is_shared}
+use Rattle.evaluation_rules.specs.Arguments.{is_shared}
 use Rattle.repl_walker.specs.Agreeing.{names_shared, IsToldBy, AreToldBy}
 use Rattle.repl_walker.specs.Attempts.{AsksThese}
 use Rattle.repl_walker.specs.Standing.{standing_after}

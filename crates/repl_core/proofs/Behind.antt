@@ -6,7 +6,7 @@ use Rattle.value_data.specs.Datum.{tenant}
 use Rattle.server_rules.specs.Deeds.{plan}
 use Rattle.server_rules.specs.Ground.{Ground}
 use Rattle.server_rules.specs.Plan.{Deed, StepAnswer, Outcome, refuses, leaves}
-use Rattle.server_rules.specs.Store.{Store}
+use Rattle.ref_table.specs.Store.{Store}
 use Rattle.server_rules.specs.Tenant.{Quiet}
 use Rattle.server_rules.specs.Machine.World.{TenantData, World, Step, does, ended_as, with_tenant}
 use Rattle.server_rules.specs.Machine.World.{step}

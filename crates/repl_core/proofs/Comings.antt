@@ -8,9 +8,9 @@ use Rattle.std.proofs.lemmas.Bool.Decides.{nat_tests}
 use Rattle.value_data.specs.Datum.{OwnerData, tenant}
 use Rattle.value_data.specs.Same.{same_owner}
 use Rattle.server_rules.specs.Ground.{Ground}
-use Rattle.server_rules.specs.Numbered.{entry, part_under}
+use Rattle.ref_table.specs.Numbered.{entry, part_under}
 use Rattle.server_rules.specs.Plan.{tenant_opened, tenant_gone}
-use Rattle.server_rules.specs.Store.{Store}
+use Rattle.ref_table.specs.Store.{Store}
 use Rattle.server_rules.specs.Tenant.{opened_quiet}
 use Rattle.server_rules.specs.Machine.World.{World, opens, closes, opened_tenant, with_tenant}
 use Rattle.server_rules.specs.Machine.World as worlds

@@ -10,19 +10,19 @@ use Rattle.repl_values.specs.Failure.{Failure}
 use Rattle.repl_asks.specs.Transactions.{RefNameData, ChangeData, IntentData, same_name}
 use Rattle.repl_asks.specs.Exchange as exchange
 use Rattle.repl_asks.specs.Exchange.{AskData, AnswerData, value, verdict, committed, conflict}
-use Rattle.server_rules.specs.Numbered as numbered
-use Rattle.server_rules.specs.Numbered.{Entry, entry, changed_at, without}
-use Rattle.server_rules.specs.Versions.{Ref, new_ref, with_failed_read, with_least, with_most}
-use Rattle.server_rules.specs.Versions.{readable, newest}
-use Rattle.server_rules.specs.Store.{Store, ref_of, ref_named, newest_in_ref, newest_value}
-use Rattle.server_rules.specs.Store.{changed_of, with_changed_ref, with_points, left_attempt}
-use Rattle.server_rules.specs.Commit.{guarded_refs, touched_refs, changing_refs, all_there, all_fit}
-use Rattle.server_rules.specs.Commit.{all_take, refs_are_distinct, intent_fits, any_newer}
+use Rattle.ref_table.specs.Numbered as numbered
+use Rattle.ref_table.specs.Numbered.{Entry, entry, changed_at, without}
+use Rattle.ref_history.specs.Versioned.{Ref, new_ref, with_failed_read, with_least, with_most}
+use Rattle.ref_history.specs.Versioned.{readable, newest}
+use Rattle.ref_table.specs.Store.{Store, ref_of, ref_named, newest_in_ref, newest_value}
+use Rattle.ref_table.specs.Store.{changed_of, with_changed_ref, with_points, left_attempt}
+use Rattle.ref_table.specs.Commit.{guarded_refs, touched_refs, changing_refs, all_there, all_fit}
+use Rattle.ref_table.specs.Commit.{all_take, refs_are_distinct, intent_fits, any_newer}
 use Rattle.value_data.specs.Same.{same_owner}
-use Rattle.server_rules.specs.Commit.{all_folded, with_changes, with_raised_counter, with_all}
-use Rattle.server_rules.specs.Commit.{concluded_commit, checked_commit, commit_by}
-use Rattle.server_rules.specs.Calls.{performed_make, performed_begin, read_at, read_by}
-use Rattle.server_rules.specs.Calls.{bound_set, nothing, inside, performed}
+use Rattle.ref_table.specs.Commit.{all_folded, with_changes, with_raised_counter, with_all}
+use Rattle.ref_table.specs.Commit.{concluded_commit, checked_commit, commit_by}
+use Rattle.ref_table.specs.Calls.{performed_make, performed_begin, read_at, read_by}
+use Rattle.ref_table.specs.Calls.{bound_set, nothing, inside, performed}
 use Rattle.server_rules.specs.Asking.{call_of, send_call}
 use Rattle.server_rules.proofs.Sound.{version_with}
 use Rattle.ref_table.proofs.Owners.{some-same, none-some, slice_get-changed, slice_get-added}

@@ -8,7 +8,7 @@ use Rattle.std.proofs.lemmas.Bool.{eqb-true, and_parts}
 use Rattle.value_data.specs.Datum.{Datum, OwnerData, shared, tenant}
 use Rattle.repl_values.specs.Failure.{Failure, ◌>>=◌}
 use Rattle.repl_asks.specs.Transactions.{RefNameData, ChangeData, CommutedData, same_name}
-use Rattle.server_rules.specs.Commit.{refs_are_distinct, folded_from, all_folded}
+use Rattle.ref_table.specs.Commit.{refs_are_distinct, folded_from, all_folded}
 use Rattle.value_data.specs.Same.{same_owner}
 use Rattle.ref_table.proofs.Owners.{none-some}
 use Rattle.repl_core.specs.Commits.{last_set, folded_or, last_commuted}

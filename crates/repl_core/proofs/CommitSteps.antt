@@ -7,9 +7,9 @@ use Rattle.value_data.specs.Datum.{Datum, OwnerData, shared, tenant}
 use Rattle.repl_asks.specs.Transactions.{RefNameData}
 use Rattle.repl_asks.specs.Exchange as exchange
 use Rattle.repl_asks.specs.Exchange.{AskData, AnswerData}
-use Rattle.server_rules.specs.Numbered.{entry, part_under}
-use Rattle.server_rules.specs.Store.{Store, ref_of, left_attempt}
-use Rattle.server_rules.specs.Calls.{gives_up, given_up, performed}
+use Rattle.ref_table.specs.Numbered.{entry, part_under}
+use Rattle.ref_table.specs.Store.{Store, ref_of, left_attempt}
+use Rattle.ref_table.specs.Calls.{gives_up, given_up, performed}
 use Rattle.server_rules.specs.Ground.{Ground}
 use Rattle.server_rules.specs.Request.{Hand, Run}
 use Rattle.server_rules.specs.Tenant.{ActorData, seat_of, Quiet, is_held, actor_state}

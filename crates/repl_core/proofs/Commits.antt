@@ -9,13 +9,13 @@ use Rattle.value_data.specs.Datum.{OwnerData, shared, tenant}
 use Rattle.repl_values.specs.Failure.{Failure}
 use Rattle.repl_asks.specs.Transactions.{RefNameData, ChangeData, IntentData}
 use Rattle.repl_asks.specs.Exchange.{AnswerData, commit, verdict, committed}
-use Rattle.server_rules.specs.Numbered.{part_under}
-use Rattle.server_rules.specs.Store.{Store, ref_of, ref_named, newest_value}
-use Rattle.server_rules.specs.Commit.{guarded_refs, touched_refs, all_there, intent_fits}
-use Rattle.server_rules.specs.Commit.{is_newer_ref, any_newer, all_folded, concluded_commit}
-use Rattle.server_rules.specs.Commit.{checked_commit, commit_by}
-use Rattle.server_rules.specs.Performed.{Performed}
-use Rattle.server_rules.specs.Calls.{commits, given_up, performed}
+use Rattle.ref_table.specs.Numbered.{part_under}
+use Rattle.ref_table.specs.Store.{Store, ref_of, ref_named, newest_value}
+use Rattle.ref_table.specs.Commit.{guarded_refs, touched_refs, all_there, intent_fits}
+use Rattle.ref_table.specs.Commit.{is_newer_ref, any_newer, all_folded, concluded_commit}
+use Rattle.ref_table.specs.Commit.{checked_commit, commit_by}
+use Rattle.ref_table.specs.Performed.{Performed}
+use Rattle.ref_table.specs.Calls.{commits, given_up, performed}
 use Rattle.server_rules.specs.Ground.{Ground}
 use Rattle.server_rules.specs.Request.{Hand, Run}
 use Rattle.server_rules.specs.Tenant.{ActorData, seat_of}

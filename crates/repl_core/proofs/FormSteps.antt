@@ -8,10 +8,10 @@ use Rattle.bencode_wire.specs.declared.fault.WireFault.{WireFault}
 use Rattle.repl_asks.specs.Exchange.{AskData, AnswerData}
 use Rattle.repl_asks.specs.Job.{EndingData}
 use Rattle.repl_replies.specs.Replies.{ReplyData, interrupted}
-use Rattle.server_rules.specs.Numbered.{Entry, entry, part_under, with_part, without}
-use Rattle.server_rules.specs.Store.{Store}
-use Rattle.server_rules.specs.Performed.{Performed}
-use Rattle.server_rules.specs.Calls.{performed, given_up}
+use Rattle.ref_table.specs.Numbered.{Entry, entry, part_under, with_part, without}
+use Rattle.ref_table.specs.Store.{Store}
+use Rattle.ref_table.specs.Performed.{Performed}
+use Rattle.ref_table.specs.Calls.{performed, given_up}
 use Rattle.server_rules.specs.Cells.{CellsData, must_wait}
 use Rattle.server_rules.specs.Ground.{Ground}
 use Rattle.server_rules.specs.Request.{Hand, Run}

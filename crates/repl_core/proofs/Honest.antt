@@ -3,7 +3,7 @@ use Rattle.std.proofs.Common.{◌≡◌, ◌≢◌, ℕ, Bool, true, Some, None,
 use Rattle.std.proofs.Common.{OnOk}
 use Rattle.std.proofs.Common.{sym, ap, subst, ◌∙◌}
 use Rattle.server_rules.specs.Ground.{Ground}
-use Rattle.server_rules.specs.Numbered.{part_under}
+use Rattle.ref_table.specs.Numbered.{part_under}
 use Rattle.server_rules.specs.Honest.{honest_deed}
 use Rattle.server_rules.specs.Machine.Turns.{goes, step_of, turn_step, quiet_of}
 use Rattle.server_rules.specs.Machine.World.{TenantData, World, step, does, ended_as}

@@ -2,9 +2,9 @@
 use Rattle.std.proofs.Common.{◌≡◌, ◌∙◌, ℕ, Some, option_and_then, refl, sym, ap}
 use Rattle.repl_asks.specs.Job.{EndingData}
 use Rattle.server_rules.specs.Ground.{Ground}
-use Rattle.server_rules.specs.Numbered.{part_under}
+use Rattle.ref_table.specs.Numbered.{part_under}
 use Rattle.server_rules.specs.Plan.{ends}
-use Rattle.server_rules.specs.Store.{Store}
+use Rattle.ref_table.specs.Store.{Store}
 use Rattle.server_rules.specs.Tenant.{Quiet, seat_of}
 use Rattle.server_rules.specs.Machine.World.{World, does}
 use Rattle.server_rules.specs.declared.actor.Actor.{Actor}

@@ -6,8 +6,8 @@ use Rattle.std.specs.Borrow.{MutBor}
 use Rattle.std.proofs.lemmas.Bool.{eqb-true, eqb-false, eq-eqb}
 use Rattle.value_data.specs.Datum.{tenant}
 use Rattle.server_rules.specs.Ground.{Ground}
-use Rattle.server_rules.specs.Numbered.{part_under, with_part}
-use Rattle.server_rules.specs.Store.{Around, Store}
+use Rattle.ref_table.specs.Numbered.{part_under, with_part}
+use Rattle.ref_table.specs.Store.{Around, Store}
 use Rattle.server_rules.specs.Tenant.{Quiet}
 use Rattle.server_rules.specs.Machine.World.{TenantData, World}
 use Rattle.ref_table.specs.Refs.{Refs, refs_after}

@@ -6,11 +6,11 @@ use Rattle.std.specs.Prelude.{option_map, option_and_then}
 use Rattle.value_data.specs.Datum.{Datum}
 use Rattle.repl_asks.specs.Transactions.{RefNameData}
 use Rattle.repl_asks.specs.Exchange.{AnswerData, read}
-use Rattle.server_rules.specs.Numbered.{part_under}
-use Rattle.server_rules.specs.Versions.{Version, Ref, at_point, readable}
-use Rattle.server_rules.specs.Store.{Store, ref_named}
-use Rattle.server_rules.specs.Performed.{Performed}
-use Rattle.server_rules.specs.Calls.{reads, read_at, read_by, given_up, performed}
+use Rattle.ref_table.specs.Numbered.{part_under}
+use Rattle.ref_history.specs.Versioned.{Version, Ref, at_point, readable}
+use Rattle.ref_table.specs.Store.{Store, ref_named}
+use Rattle.ref_table.specs.Performed.{Performed}
+use Rattle.ref_table.specs.Calls.{reads, read_at, read_by, given_up, performed}
 use Rattle.server_rules.specs.Ground.{Ground}
 use Rattle.server_rules.specs.Request.{Hand, Run}
 use Rattle.server_rules.specs.Tenant.{ActorData, seat_of}

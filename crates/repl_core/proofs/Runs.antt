@@ -9,7 +9,7 @@ use Rattle.repl_replies.specs.Operations.{AskedData, OperationData}
 use Rattle.repl_replies.specs.Replies.{OriginData, ReplyData}
 use Rattle.server_rules.specs.Ground.{Ground}
 use Rattle.server_rules.specs.Hearing.{with_messages, new_messages, taken_in}
-use Rattle.server_rules.specs.Numbered.{Entry, entry, part_under, with_part, without}
+use Rattle.ref_table.specs.Numbered.{Entry, entry, part_under, with_part, without}
 use Rattle.server_rules.specs.Operating.{named_sessions, closed_by, with_vacated_seat, asker}
 use Rattle.server_rules.specs.Operating.{queued_for, after_operation, with_asked, with_message}
 use Rattle.server_rules.specs.Request.{Waiting, Hand, Run}

@@ -11,7 +11,7 @@ use Rattle.repl_asks.specs.Exchange.{AskData, AnswerData}
 use Rattle.repl_asks.specs.Job.{JobData}
 use Rattle.repl_asks.specs.InteractionTree.{InteractionTree, finished, asks}
 use Rattle.server_rules.specs.Readings.{Readings}
-use Rattle.server_rules.specs.Versions.{Ref}
+use Rattle.ref_history.specs.Versioned.{Ref}
 use Rattle.server_rules.specs.Shared.{SharedData, nothing_shared, told_in_text, shared_after}
 use Rattle.server_rules.specs.Shared.{left_by_form, when_told_in_text, shared_by, text_job}
 use Rattle.server_rules.specs.Shared.{shared_by_forms, unless_unread, shared_by_text}

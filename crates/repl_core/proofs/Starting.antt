@@ -7,7 +7,7 @@ use Rattle.repl_values.specs.Failure.{Failure}
 use Rattle.name_spaces.specs.Inside.Seen.{shared_bindings}
 use Rattle.server_rules.specs.Ground.{Ground}
 use Rattle.server_rules.specs.Shared.{SharedData, shared_by_text}
-use Rattle.server_rules.specs.Versions.{Ref}
+use Rattle.ref_history.specs.Versioned.{Ref}
 use Rattle.server_rules.specs.Machine.World.{opened_world}
 use Rattle.tenant_parts.specs.Serving.{RingRefTable}
 use Rattle.tenant_parts.specs.Sound.{IsSound, AreSound}

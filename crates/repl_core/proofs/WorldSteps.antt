@@ -3,10 +3,10 @@ use Rattle.std.proofs.Common.{◌≡◌, ◌≢◌, ◌∙◌, ◌⊎◌, inl, i
 use Rattle.std.proofs.Common.{Option, Some, None, option_and_then, refl, sym, ap, subst}
 use Rattle.std.proofs.Common.{if◌then◌else◌}
 use Rattle.std.proofs.lemmas.Bool.{cases_eq}
-use Rattle.server_rules.specs.Numbered.{entry, part_under}
-use Rattle.server_rules.specs.Store.{Store}
-use Rattle.server_rules.specs.Performed.{Performed}
-use Rattle.server_rules.specs.Calls.{performed}
+use Rattle.ref_table.specs.Numbered.{entry, part_under}
+use Rattle.ref_table.specs.Store.{Store}
+use Rattle.ref_table.specs.Performed.{Performed}
+use Rattle.ref_table.specs.Calls.{performed}
 use Rattle.server_rules.specs.Ground.{Ground}
 use Rattle.server_rules.specs.Tenant.{unoccupied, seat_of}
 use Rattle.server_rules.specs.Plan.{Deed, tenant_opened, Outcome, refuses, leaves}

@@ -5,10 +5,10 @@ use Rattle.std.proofs.Common.{true≢false, arith}
 use Rattle.std.proofs.lemmas.Bool.{eqb-true}
 use Rattle.std.proofs.lemmas.Bool.Decides.{nat_tests}
 use Rattle.server_rules.specs.Ground.{Ground}
-use Rattle.server_rules.specs.Numbered.{Entry, entry, part_under, with_part}
+use Rattle.ref_table.specs.Numbered.{Entry, entry, part_under, with_part}
 use Rattle.server_rules.specs.Plan.{Deed}
 use Rattle.server_rules.specs.Deeds.{plan}
-use Rattle.server_rules.specs.Store.{Store}
+use Rattle.ref_table.specs.Store.{Store}
 use Rattle.server_rules.specs.Tenant.{Quiet}
 use Rattle.server_rules.specs.Machine.World.{TenantData, World, is_used, open_count, accepted, refused}
 use Rattle.server_rules.specs.Machine.World.{step, does, closes, deed_step, close_step, ended_as}

@@ -10,9 +10,9 @@ use Rattle.repl_asks.specs.Transactions.{RefNameData, ChangeData, CommutedData, 
 use Rattle.repl_asks.specs.Transactions.{same_name}
 use Rattle.repl_asks.specs.Exchange.{AskData, AnswerData, new_ref, commit, value, verdict}
 use Rattle.repl_asks.specs.Exchange.{committed}
-use Rattle.server_rules.specs.Numbered as numbered
-use Rattle.server_rules.specs.Versions.{Ref, newest}
-use Rattle.server_rules.specs.Commit.{guarded_refs, is_newer_ref, folded_from}
+use Rattle.ref_table.specs.Numbered as numbered
+use Rattle.ref_history.specs.Versioned.{Ref, newest}
+use Rattle.ref_table.specs.Commit.{guarded_refs, is_newer_ref, folded_from}
 use Rattle.server_rules.specs.Ground.{Ground}
 use Rattle.server_rules.specs.Tenant.{seat_of}
 use Rattle.server_rules.specs.Plan.{StepAnswer, asks_for, ask_answered}

@@ -1,5 +1,5 @@
 -- How much is left to do for a tenant.
-use Rattle.std.specs.Prelude.{ℕ, [], Option, None, Some}
+use Rattle.std.specs.Prelude.{◌≡◌, ℕ, [], Option, None, Some}
 use Rattle.server_rules.specs.Inside.Turned.{Left}
 use Rattle.tenant_world.specs.Standing.{replies_of}
 use Rattle.tenant_world.specs.declared.tenant.Tenant.{Tenant}
@@ -13,3 +13,10 @@ left_of (Some tenant) = record { steps = tenant.steps; outbox = replies_of tenan
 
 abbrev pub left_at : ℕ → Machine → Left
 left_at t m = left_of (tenant_at m.tenants t)
+
+abbrev pub steps_at : ℕ → Machine → ℕ
+steps_at t m = (left_at t m).steps
+
+-- no reply waits before, and none behind
+abbrev pub NoneWaits : ℕ → Machine → Machine → Type 0
+NoneWaits t old new = ((left_at t old).outbox ≡ []) × ((left_at t new).outbox ≡ [])

@@ -5,8 +5,8 @@ use Rattle.value_data.specs.Datum.{Datum, shared}
 use Rattle.repl_asks.specs.Transactions.{RefNameData}
 use Rattle.repl_asks.specs.Exchange.{AskData, AnswerData, read, min_history, max_history, done}
 use Rattle.repl_asks.specs.Exchange.{reading, ReadingData, found, retry}
-use Rattle.server_rules.specs.Versions.{Ref, at_point}
-use Rattle.server_rules.specs.Calls.{number_told}
+use Rattle.ref_history.specs.Versioned.{Ref, at_point}
+use Rattle.ref_table.specs.Calls.{number_told}
 use Rattle.server_rules.specs.Ground.{Ground}
 use Rattle.server_rules.specs.Plan.{StepAnswer, asks_for, ask_answered}
 use Rattle.server_rules.specs.Machine.World.{World, Step, does, accepted, step, run}

@@ -32,6 +32,25 @@ abbrev pub StepLacksMemory : {A : Type 0} → Step → Machine → Result A Refu
 StepLacksMemory s old result = (g : Ground) (w : World) → IsRight g → MachineStands g old w
     → result ≡ Err Refusal.NoMemory → is_accepted_step (step g w s) ≡ true
 
+-- the same, where a commit can still be counted
+abbrev pub CountedLacksMemory : {A : Type 0} → Step → Machine → Type 0 → Result A Refusal → Type 0
+CountedLacksMemory s old can_count result = (g : Ground) (w : World) → IsRight g
+    → MachineStands g old w → can_count → result ≡ Err Refusal.NoMemory
+    → is_accepted_step (step g w s) ≡ true
+
+-- The same of a call whose error has more than why.
+
+abbrev pub DeclinesStepBy : {A E : Type 0} → Step → Machine → Machine → Result A E
+    → (E → Refusal) → Type 0
+DeclinesStepBy s old new result why = (g : Ground) (w : World) → IsRight g → MachineStands g old w
+    → IfErr result (λ e. RefusesStep g w s new (why e))
+
+abbrev pub CountedLacksMemoryBy : {A E : Type 0} → Step → Machine → Type 0 → Result A E
+    → (E → Refusal) → Type 0
+CountedLacksMemoryBy s old can_count result why = (g : Ground) (w : World) → IsRight g
+    → MachineStands g old w → can_count
+    → IfErr result (λ e. why e ≡ Refusal.NoMemory → is_accepted_step (step g w s) ≡ true)
+
 -- The same of a step that, where it ends a form, ends it by the job and the trace that are kept.
 
 abbrev pub DoesKnown : {A E : Type 0} → Step → Machine → Machine → Result A E

@@ -1,6 +1,6 @@
 -- The bounds of the histories of shared refs.
 use Rattle.std.specs.Prelude.{◌≡◌, ℕ, List, Some}
-use Rattle.server_rules.specs.Versions.{Ref}
+use Rattle.ref_history.specs.Versioned.{Ref}
 use Rattle.server_rules.specs.Ground.{Ground}
 use Rattle.server_rules.specs.Machine.World.{Step, opened_world, run}
 use Rattle.repl_core.specs.Commits.{ref_in_world}

@@ -3,8 +3,8 @@ use Rattle.std.specs.Prelude.{◌≡◌, ℕ, [], Bool, false, nat_le, Option, N
 use Rattle.value_data.specs.Datum.{shared, tenant}
 use Rattle.name_spaces.specs.Inside.Seen.{shared_bindings}
 use Rattle.server_rules.specs.Ground.{Ground}
-use Rattle.server_rules.specs.Numbered.{part_under}
-use Rattle.server_rules.specs.Store.{Around, Own, Store}
+use Rattle.ref_table.specs.Numbered.{part_under}
+use Rattle.ref_table.specs.Store.{Around, Own, Store}
 use Rattle.server_rules.specs.Machine.World.{TenantData, World, is_used, open_count}
 use Rattle.ref_history.specs.RingHistories.{RingStands}
 use Rattle.ref_table.specs.Refs.{Refs}

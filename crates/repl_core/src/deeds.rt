@@ -1,12 +1,10 @@
 // What tenants do.
-ghost use Rattle.std.specs.Prelude.{◌≡◌, ◌≢◌, ◌+◌, ◌<◌, ◌∷◌, [], true, Err, IfOk, OnOk, OnErr};
+ghost use Rattle.std.specs.Prelude.{◌≡◌, ◌≢◌, ◌+◌, ◌<◌, ◌∷◌, true, Err, IfOk, OnOk, OnErr};
 ghost use Rattle.repl_asks.specs.Inside.View.{ask_view};
-ghost use Rattle.server_rules.specs.Ground.{Ground};
 ghost use Rattle.server_rules.specs.Plan.{hears, starts, asks_for, ends, drains};
 ghost use Rattle.server_rules.specs.Plan.{messages_heard, reply_given};
-ghost use Rattle.server_rules.specs.Machine.World.{World, does, step};
+ghost use Rattle.server_rules.specs.Machine.World.{does};
 ghost use Rattle.ref_table.specs.Standing.{counter_of};
-ghost use Rattle.server_rules.specs.Grounds.{IsRight};
 ghost use Rattle.repl_walker.specs.Ends.{ending_view};
 ghost use Rattle.tenant_parts.specs.Aside.{printed_in};
 ghost use Rattle.tenant_parts.specs.Printed.{PrintsEnd};
@@ -26,10 +24,9 @@ use tenant_world as world;
 use tenant_world::{AskAnswers, EndAnswer, Replies, StartAnswers};
 
 impl Machine {
-    ghost use Rattle.repl_core.specs.Left.{left_at};
-    ghost use Rattle.repl_core.specs.Standing.{MachineStands};
-    ghost use Rattle.repl_core.specs.Steps.{is_accepted_step};
+    ghost use Rattle.repl_core.specs.Left.{left_at, steps_at, NoneWaits};
     ghost use Rattle.repl_core.specs.Promises.{DoesStep, DeclinesStep, StepLacksMemory};
+    ghost use Rattle.repl_core.specs.Promises.{CountedLacksMemory};
     ghost use Rattle.repl_core.specs.Promises.{DoesKnown, DeclinesKnown, KnownLacksMemory};
 
     /// A tenant hears a piece of its stream.
@@ -81,10 +78,8 @@ impl Machine {
         ensures refused { DeclinesStep (does number (asks_for actor (ask_view ask.now))) self.old
             self.new result }
         ensures same { IfOk result AreSameAnswers }
-        ensures no_memory { (g : Ground) (w : World) → IsRight g → MachineStands g self.old w
-            → counter_of self.old.refs < u128.MAX → result ≡ Err Refusal.NoMemory
-            → is_accepted_step
-            (step g w (does number (asks_for actor (ask_view ask.now)))) ≡ true }
+        ensures no_memory { CountedLacksMemory (does number (asks_for actor (ask_view ask.now)))
+            self.old (counter_of self.old.refs < u128.MAX) result }
     {
         if !has_stamps(&self.refs) {
             return Err(Refusal::NoMemory);
@@ -167,11 +162,10 @@ impl Machine {
         ensures done { DoesStep (does number drains) self.old self.new result
             (λ reply. reply_given reply.items) }
         ensures refused { DeclinesStep (does number drains) self.old self.new result }
-        ensures steps { (left_at number self.new).steps ≡ (left_at number self.old).steps }
+        ensures steps { steps_at number self.new ≡ steps_at number self.old }
         ensures oldest { IfOk result (λ reply. (left_at number self.old).outbox
             ≡ reply.items ∷ (left_at number self.new).outbox) }
-        ensures emptied { OnErr result (((left_at number self.old).outbox ≡ [])
-            × ((left_at number self.new).outbox ≡ [])) }
+        ensures emptied { OnErr result (NoneWaits number self.old self.new) }
         ensures free { result ≢ Err Refusal.NoMemory }
     {
         let Some(tenant) = self.tenants.get_mut(number) else {

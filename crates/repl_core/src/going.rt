@@ -9,7 +9,7 @@ use crate::walks::Walks;
 use server_rules::{Actor, Refusal};
 
 impl Machine {
-    ghost use Rattle.repl_core.specs.Left.{left_at};
+    ghost use Rattle.repl_core.specs.Left.{left_at, steps_at};
     ghost use Rattle.repl_core.specs.Promises.{GoesOn, DeclinesToGo, GoingLacksMemory};
 
     /// Makes the honest step of an actor: begins a form, or asks what its evaluation asks, or ends
@@ -21,11 +21,9 @@ impl Machine {
         ensures no_memory { GoingLacksMemory number actor self.old walks.old
             (counter_of self.old.refs < u128.MAX) (is_kept walks.old walks.new actor) result }
         ensures unworn { counter_of self.old.refs < u128.MAX → result ≡ Err Refusal.NoMemory
-            → 0 < (left_at number self.old).steps }
-        ensures steps { OnOk result
-            ((left_at number self.old).steps ≡ (left_at number self.new).steps + 1) }
-        ensures kept { OnErr result
-            ((left_at number self.new).steps ≡ (left_at number self.old).steps) }
+            → 0 < steps_at number self.old }
+        ensures steps { OnOk result (steps_at number self.old ≡ steps_at number self.new + 1) }
+        ensures kept { OnErr result (steps_at number self.new ≡ steps_at number self.old) }
         ensures held { result ≡ Err Refusal.Held → 0 < length (left_at number self.old).outbox }
     {
         if !has_stamps(&self.refs) {

@@ -20,20 +20,18 @@ use tenant_world::{AskAnswer, AskAnswers, EndAnswer, Replies, StartAnswer, Start
 impl Machine {
     ghost use Rattle.repl_core.specs.Standing.{MachineStands};
     ghost use Rattle.repl_core.specs.Points.{IsReadOfItsPoint};
-    ghost use Rattle.repl_core.specs.Steps.{RefusesStep, is_accepted_step};
+    ghost use Rattle.repl_core.specs.Steps.{is_accepted_step};
     ghost use Rattle.repl_core.specs.Promises.{DoesStep, DeclinesStep, DoesKnown, DeclinesKnown};
+    ghost use Rattle.repl_core.specs.Promises.{DeclinesStepBy, CountedLacksMemoryBy};
     ghost use Rattle.repl_core.specs.Kept.{EndsAsKept};
 
     /// Makes a step. A step that is refused changes nothing, and is given back. In an attempt the
     /// answer to a read is what the ref held at the attempt's read point, or to read again.
     pub fn step(&mut self, step: Step) -> Result<StepAnswer, Refused>
         ensures done { DoesStep (step_view step) self.old self.new result step_answer_view }
-        ensures refused { (g : Ground) (w : World) → IsRight g → MachineStands g self.old w
-            → IfErr result (λ it. RefusesStep g w (step_view step) self.new it.why) }
-        ensures no_memory { (g : Ground) (w : World) → IsRight g → MachineStands g self.old w
-            → counter_of self.old.refs < u128.MAX
-            → IfErr result (λ it. it.why ≡ Refusal.NoMemory
-            → is_accepted_step (worlds.step g w (step_view step)) ≡ true) }
+        ensures refused { DeclinesStepBy (step_view step) self.old self.new result (λ it. it.why) }
+        ensures no_memory { CountedLacksMemoryBy (step_view step) self.old
+            (counter_of self.old.refs < u128.MAX) result (λ it. it.why) }
         ensures reads { (g : Ground) (w : World) → IsRight g → MachineStands g self.old w
             → IfOk result (λ x. IsReadOfItsPoint w (step_view step) (step_answer_view x)) }
         ensures handed_back { IfErr result (λ it. it.step ≡ step) }
@@ -45,12 +43,9 @@ impl Machine {
     pub fn step_copied(&mut self, step: Step) -> Result<StepAnswers, Refused>
         ensures done { DoesStep (step_view step) self.old self.new result
             (λ it. step_answer_view it.given) }
-        ensures refused { (g : Ground) (w : World) → IsRight g → MachineStands g self.old w
-            → IfErr result (λ it. RefusesStep g w (step_view step) self.new it.why) }
-        ensures no_memory { (g : Ground) (w : World) → IsRight g → MachineStands g self.old w
-            → counter_of self.old.refs < u128.MAX
-            → IfErr result (λ it. it.why ≡ Refusal.NoMemory
-            → is_accepted_step (worlds.step g w (step_view step)) ≡ true) }
+        ensures refused { DeclinesStepBy (step_view step) self.old self.new result (λ it. it.why) }
+        ensures no_memory { CountedLacksMemoryBy (step_view step) self.old
+            (counter_of self.old.refs < u128.MAX) result (λ it. it.why) }
         ensures same { IfOk result AreSame }
         ensures handed_back { IfErr result (λ it. it.step ≡ step) }
     {

@@ -3,3 +3,5 @@
 pub mod Parts
 pub mod Style
 pub mod FaultView
+pub mod Rows
+pub mod RowView

@@ -1,4 +1,9 @@
 pub mod Print
 pub mod Slash
 pub mod Failure
+pub mod Items
+pub mod Making
+pub mod Arguments
+pub mod FunctionRows
+pub mod Places
 pub mod Inside

@@ -5,7 +5,7 @@ use Rattle.std.proofs.lemmas.List.Elements.{filter_map-append}
 use Rattle.core_scalars.specs.Limits.{most_text}
 use Rattle.repl_asks.specs.Transactions.{RefNameData}
 use Rattle.repl_asks.specs.Exchange.{AskData, AnswerData, read, reading, retry, Exchanged}
-use Rattle.tx_attempt.specs.Accesses.{AccessData, value_accessed}
+use Rattle.repl_asks.specs.Accesses.{AccessData, value_accessed}
 use Rattle.evaluation_rules.specs.Doing.{Kept, Doing, left, retried, asking, printing, looking, noting}
 use Rattle.evaluation_rules.specs.Doing.{trying}
 use Rattle.repl_walker.specs.Agreeing.{names_shared, own_answers, IsToReadAgain, IsToldBy, AreToldBy}

@@ -8,7 +8,7 @@ use Rattle.core_scalars.specs.Limits.{most_text}
 use Rattle.repl_asks.specs.Exchange.{AskData, AnswerData, Exchanged}
 use Rattle.repl_asks.specs.InteractionTree.{InteractionTree}
 use Rattle.repl_asks.specs.Leading.{Leads}
-use Rattle.tx_attempt.specs.Accesses.{AccessData, AttemptData, nothing_noted, noted}
+use Rattle.repl_asks.specs.Accesses.{AccessData, AttemptData, nothing_noted, noted}
 use Rattle.evaluation_rules.specs.Doing.{Kept, Exit, Doing, left, asking, printing, looking, noting}
 use Rattle.evaluation_rules.specs.Doing.{trying}
 use Rattle.evaluation_rules.specs.Tree.{with_attempt, ends, written_tree}

@@ -4,7 +4,7 @@ use Rattle.std.proofs.Common.{if◌then◌else◌, subst, ap, ◌∙◌}
 use Rattle.core_scalars.specs.Limits.{most_text}
 use Rattle.value_data.specs.Datum.{Datum, nil}
 use Rattle.repl_asks.specs.Exchange.{AnswerData, ReadingData, read, retry}
-use Rattle.tx_attempt.specs.Accesses.{AccessData}
+use Rattle.repl_asks.specs.Accesses.{AccessData}
 use Rattle.evaluation_rules.specs.Doing.{Kept, Doing, left, asking, printing, looking, noting}
 use Rattle.evaluation_rules.specs.Doing.{trying}
 use Rattle.evaluation_rules.specs.Places.{PlaceData}

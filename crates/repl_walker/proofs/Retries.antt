@@ -35,14 +35,14 @@ use Rattle.special_forms.specs.Shapes as shapes
 use Rattle.special_forms.specs.Shapes.{ShapeData, shape_of}
 use Rattle.special_forms.specs.declared.shapes.Logic.{Logic}
 use Rattle.special_forms.specs.declared.special.SpecialForm.{SpecialForm}
-use Rattle.tx_attempt.specs.Accesses.{AttemptData, commuted, attempt_value, is_commuted}
-use Rattle.store_calls.specs.Calling.{CallData, refused, reads, puts, ensures, asks_value}
-use Rattle.store_calls.specs.Calling.{asks_permission}
-use Rattle.store_calls.specs.Calling.{altered_in, dispatching}
-use Rattle.store_calls.specs.Arguments.{atom_in, agent_in}
-use Rattle.store_calls.specs.declared.altering.Alteration.{Alteration}
-use Rattle.store_calls.specs.declared.sending.Dispatch.{Dispatch}
-use Rattle.store_calls.specs.declared.updating.Update.{Update}
+use Rattle.repl_asks.specs.Accesses.{AttemptData, commuted, attempt_value, is_commuted}
+use Rattle.evaluation_rules.specs.Calling.{CallData, refused, reads, puts, ensures, asks_value}
+use Rattle.evaluation_rules.specs.Calling.{asks_permission}
+use Rattle.evaluation_rules.specs.Calling.{altered_in, dispatching}
+use Rattle.evaluation_rules.specs.Arguments.{atom_in, agent_in}
+use Rattle.evaluation_rules.specs.declared.altering.Alteration.{Alteration}
+use Rattle.evaluation_rules.specs.declared.sending.Dispatch.{Dispatch}
+use Rattle.evaluation_rules.specs.declared.updating.Update.{Update}
 use Rattle.evaluation_rules.specs.declared.occasion.Occasion.{Occasion}
 use Rattle.evaluation_rules.specs.Doing.{Kept, Doing, gave, failed, left, retried, asking, printing}
 use Rattle.evaluation_rules.specs.Doing.{looking, noting, trying, Part, ◌>>=◌, pure_part, fails}

@@ -3,7 +3,7 @@ use Rattle.std.proofs.Common.{◌≡◌, ℕ, ◌+◌, List, [], ◌∷◌, ◌+
 use Rattle.std.proofs.Common.{true, false, if◌then◌else◌, refl, sym, ap, ◌∙◌}
 use Rattle.core_scalars.specs.Limits.{most_text}
 use Rattle.repl_asks.specs.Exchange.{AnswerData}
-use Rattle.tx_attempt.specs.Accesses.{AccessData}
+use Rattle.repl_asks.specs.Accesses.{AccessData}
 use Rattle.evaluation_rules.specs.Doing.{Kept, Exit, Doing, left, asking, printing, looking, noting}
 use Rattle.evaluation_rules.specs.Doing.{trying}
 use Rattle.repl_walker.specs.Standing.{Standing, attempt_of, standing_after, on_from}

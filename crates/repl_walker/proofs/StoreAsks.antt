@@ -10,15 +10,15 @@ use Rattle.core_functions.specs.StoreNames.{store_name_of, store_fits}
 use Rattle.core_functions.specs.declared.store.StoreFunction.{StoreFunction}
 use Rattle.repl_asks.specs.Transactions.{RefNameData, may_hold}
 use Rattle.repl_asks.specs.Exchange.{AskData, read, min_history, max_history, await}
-use Rattle.store_calls.specs.declared.altering.Alteration.{Alteration}
-use Rattle.store_calls.specs.declared.sending.Dispatch.{Dispatch}
-use Rattle.store_calls.specs.Arguments.{ref_in, atom_in, agent_in, count_in, is_shared, kept_to}
-use Rattle.store_calls.specs.Arguments.{usual_bounds, bounds_in}
-use Rattle.store_calls.specs.Calling.{CallData, refused, reads, puts, ensures, asks_value}
-use Rattle.store_calls.specs.Calling.{asks_permission, agents_in, dispatching, unless_awaited}
-use Rattle.store_calls.specs.Calling.{action_call_data_of}
-use Rattle.store_calls.specs.Calling.{altering, deref_call, call_with, called_for, call_data_of}
-use Rattle.store_calls.specs.Calling.{shared_call_with, shared_call_data_of}
+use Rattle.evaluation_rules.specs.declared.altering.Alteration.{Alteration}
+use Rattle.evaluation_rules.specs.declared.sending.Dispatch.{Dispatch}
+use Rattle.evaluation_rules.specs.Arguments.{ref_in, atom_in, agent_in, count_in, is_shared, kept_to}
+use Rattle.evaluation_rules.specs.Arguments.{usual_bounds, bounds_in}
+use Rattle.evaluation_rules.specs.Calling.{CallData, refused, reads, puts, ensures, asks_value}
+use Rattle.evaluation_rules.specs.Calling.{asks_permission, agents_in, dispatching, unless_awaited}
+use Rattle.evaluation_rules.specs.Calling.{action_call_data_of}
+use Rattle.evaluation_rules.specs.Calling.{altering, deref_call, call_with, called_for, call_data_of}
+use Rattle.evaluation_rules.specs.Calling.{shared_call_with, shared_call_data_of}
 use Rattle.evaluation_rules.specs.Refs.{call_data_at}
 use Rattle.evaluation_rules.specs.declared.occasion.Occasion.{Occasion}
 

@@ -8,7 +8,7 @@ use Rattle.std.proofs.lemmas.List.Elements.{filter_map-append}
 use Rattle.core_scalars.specs.Limits.{most_text}
 use Rattle.repl_asks.specs.Transactions.{ChangeData}
 use Rattle.repl_asks.specs.Exchange.{AnswerData}
-use Rattle.tx_attempt.specs.Accesses.{AccessData, value_accessed}
+use Rattle.repl_asks.specs.Accesses.{AccessData, value_accessed}
 use Rattle.evaluation_rules.specs.Doing.{Doing, left, asking, printing, looking, noting, trying}
 use Rattle.repl_walker.specs.Standing.{Standing, attempt_of, standing_after}
 use Rattle.repl_walker.specs.Values.{values_after}

@@ -4,7 +4,7 @@ use Rattle.value_data.specs.Datum.{Datum, nil}
 use Rattle.repl_asks.specs.Transactions.{RefNameData}
 use Rattle.repl_asks.specs.Exchange.{AskData, AnswerData, read, history, min_history, max_history}
 use Rattle.repl_asks.specs.Exchange.{reading, retry, Exchanged}
-use Rattle.store_calls.specs.Arguments.{is_shared}
+use Rattle.evaluation_rules.specs.Arguments.{is_shared}
 use Rattle.evaluation_rules.specs.Doing.{Kept, Doing}
 use Rattle.evaluation_rules.specs.Places.{PlaceData}
 use Rattle.evaluation_rules.specs.Rows.{last_of}

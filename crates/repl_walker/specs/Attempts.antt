@@ -4,7 +4,7 @@ use Rattle.std.specs.Prelude.{◌≡◌, List, ◌∷◌, ◌++◌, map, ⊤}
 use Rattle.repl_asks.specs.Exchange.{AnswerData, Exchanged}
 use Rattle.repl_asks.specs.InteractionTree.{InteractionTree}
 use Rattle.repl_asks.specs.Leading.{Leads}
-use Rattle.tx_attempt.specs.Accesses.{AttemptData}
+use Rattle.repl_asks.specs.Accesses.{AttemptData}
 use Rattle.evaluation_rules.specs.Doing.{Kept, Exit, Doing, left, asking, printing, looking, noting}
 use Rattle.evaluation_rules.specs.Doing.{trying}
 use Rattle.evaluation_rules.specs.Tree.{with_attempt, written_tree}

@@ -4,7 +4,7 @@ use Rattle.std.specs.Prelude.{if◌then◌else◌}
 use Rattle.std.specs.List.{fold}
 use Rattle.core_scalars.specs.Limits.{most_text}
 use Rattle.repl_asks.specs.Exchange.{AnswerData}
-use Rattle.tx_attempt.specs.Accesses.{AccessData, AttemptData, nothing_noted, noted}
+use Rattle.repl_asks.specs.Accesses.{AccessData, AttemptData, nothing_noted, noted}
 use Rattle.evaluation_rules.specs.Doing.{Doing, left, asking, printing, looking, noting, trying}
 
 -- the text that is printed by then, what the attempt did, and what the body has still to do

@@ -2,7 +2,7 @@
 use Rattle.std.specs.Prelude.{◌≡◌, ◌≤◌, ℕ, List, [], ◌++◌, length, filter_map}
 use Rattle.repl_asks.specs.Transactions.{ChangeData}
 use Rattle.repl_asks.specs.Exchange.{AnswerData}
-use Rattle.tx_attempt.specs.Accesses.{value_accessed}
+use Rattle.repl_asks.specs.Accesses.{value_accessed}
 use Rattle.evaluation_rules.specs.Doing.{Doing}
 use Rattle.repl_walker.specs.Standing.{standing_after}
 

@@ -10,7 +10,7 @@ ghost use Rattle.evaluation_rules.specs.Places.{PlaceData};
 ghost use Rattle.evaluation_rules.specs.Rows.{last_of};
 ghost use Rattle.evaluation_rules.specs.Transactions.{body_of, after_body, attempts};
 ghost use Rattle.evaluation_rules.specs.Evaluation.{value_at};
-ghost use Rattle.tx_attempt.specs.Accesses.{AccessData};
+ghost use Rattle.repl_asks.specs.Accesses.{AccessData};
 ghost use Rattle.repl_walker.specs.Standing.{standing_after, on_from};
 ghost use Rattle.repl_walker.specs.Attempts.{IsUnderWay, IsDivided};
 ghost use Rattle.repl_walker.specs.Agreeing.{AgreeingAttempts};

@@ -6,7 +6,7 @@ use Rattle.std.specs.Prelude.{option_map}
 use Rattle.std.proofs.lemmas.Bool.{eqb-true, eqb-false, eq-eqb, cases_Bool, le-leb, lt-leb}
 use Rattle.std.proofs.lemmas.Bool.{leb-false, or_left, or_right, MatchBool-at_true}
 use Rattle.std.proofs.lemmas.Bool.{MatchBool-at_false}
-use Rattle.server_rules.specs.Numbered.{Entry, entry, part_under}
+use Rattle.ref_table.specs.Numbered.{Entry, entry, part_under}
 use Rattle.server_rules.specs.Ground.{Ground}
 use Rattle.server_rules.specs.Tenant.{Quiet}
 use Rattle.server_rules.specs.Plan.{Deed, tenant_opened, tenant_gone, Outcome, refuses}

@@ -11,22 +11,23 @@ use Rattle.repl_values.specs.Failure.{Failure, ◌>>=◌}
 use Rattle.repl_asks.specs.Transactions.{RefNameData, ChangeData, CommutedData, IntentData}
 use Rattle.repl_asks.specs.Exchange as exchange
 use Rattle.repl_asks.specs.Exchange.{AnswerData}
-use Rattle.server_rules.specs.Numbered.{changed_at, Entry, entry, part_under}
+use Rattle.ref_table.specs.Numbered.{changed_at, Entry, entry, part_under}
 use Rattle.server_rules.specs.Isolation.View.{map_entry}
-use Rattle.server_rules.specs.Versions.{RefOf, new_ref, with_version, with_failed_read, with_least}
-use Rattle.server_rules.specs.Versions.{with_most, Ref, readable}
-use Rattle.server_rules.specs.Store.{Store, ref_of, ref_named, newest_in_ref, newest_value}
-use Rattle.server_rules.specs.Store.{with_changed_ref, changed_of, left_attempt}
-use Rattle.server_rules.specs.Performed.{Performed, as_was, tells}
-use Rattle.server_rules.specs.Commit.{guarded_refs, touched_refs, all_there, intent_fits}
-use Rattle.server_rules.specs.Commit.{is_newer_ref, any_newer, folded_from, all_folded}
-use Rattle.server_rules.specs.Commit.{with_changes, with_raised_counter, with_all, concluded_commit}
-use Rattle.server_rules.specs.Commit.{checked_commit, commit_by}
-use Rattle.server_rules.specs.Calls.{Call, nothing, makes, begins, leaves_attempt, reads, counts}
-use Rattle.server_rules.specs.Calls.{tells_least, tells_most, sets_least, sets_most, commits}
-use Rattle.server_rules.specs.Calls.{inside, outside, told_inside, told_outside}
-use Rattle.server_rules.specs.Calls.{gives_up, performed_begin, read_at, read_by, number_told}
-use Rattle.server_rules.specs.Calls.{count_told, bound_set, given_up, performed}
+use Rattle.ref_history.specs.Versioned.{RefOf, new_ref, with_version, with_failed_read, with_least}
+use Rattle.ref_history.specs.Versioned.{with_most, Ref, readable}
+use Rattle.ref_table.specs.Store.{Store, ref_of, ref_named, newest_in_ref, newest_value}
+use Rattle.ref_table.specs.Store.{with_changed_ref, changed_of, left_attempt}
+use Rattle.ref_table.specs.Performed.{Performed, as_was, tells}
+use Rattle.ref_table.specs.Commit.{guarded_refs, touched_refs, all_there, intent_fits}
+use Rattle.ref_table.specs.Commit.{is_newer_ref, any_newer, folded_from, all_folded}
+use Rattle.ref_table.specs.Commit.{with_changes, with_raised_counter, with_all, concluded_commit}
+use Rattle.ref_table.specs.Commit.{checked_commit, commit_by}
+use Rattle.ref_table.proofs.Folds.{in_front, folded-names}
+use Rattle.ref_table.specs.Calls.{Call, nothing, makes, begins, leaves_attempt, reads, counts}
+use Rattle.ref_table.specs.Calls.{tells_least, tells_most, sets_least, sets_most, commits}
+use Rattle.ref_table.specs.Calls.{inside, outside, told_inside, told_outside}
+use Rattle.ref_table.specs.Calls.{gives_up, performed_begin, read_at, read_by, number_told}
+use Rattle.ref_table.specs.Calls.{count_told, bound_set, given_up, performed}
 use Rattle.server_rules.specs.Isolation.View.{map_ref, content_of, count_at, counts_at, Seen, seen_of}
 use Rattle.server_rules.specs.Isolation.Privacy.{IsOwned, AreOwned}
 use Rattle.server_rules.proofs.Numbered.{none-some, some-same, slice_get-map, changed_at-map}
@@ -326,12 +327,6 @@ value-seen_of s name private =
       by (Some r) = newest-first r.versions
 
 -- one value more, in front
-abbrev in_front
-    : RefNameData → Result Datum Failure → Result (List ChangeData) Failure
-    → Result (List ChangeData) Failure
-in_front name first rest =
-    first >>= λ d. (rest >>= λ changes. Ok (record { name = name; now = d } ∷ changes))
-
 -- only the values of the refs that are commuted count
 folded-same : (value known : RefNameData → Option Datum) (cs : List CommutedData)
     → AreOwned (map (λ c. c.name) cs)
@@ -341,27 +336,6 @@ folded-same value known [] private same = refl
 folded-same value known (c ∷ cs) private same =
     ap₂ (λ o rest. in_front c.name (folded_from c o) rest)
     (same c.name private.0) (folded-same value known cs private.1 same)
-
-ok-same : {A : Type 0} (x y : A) → ◌≡◌ {A = Result A Failure} (Ok x) (Ok y) → x ≡ y
-ok-same x y e = cc
-
--- each gets a value
-pub folded-names
-    : (value : RefNameData → Option Datum) (cs : List CommutedData) (changes : List ChangeData)
-    → all_folded value cs ≡ Ok changes → map (λ c. c.name) changes ≡ map (λ c. c.name) cs
-folded-names value [] changes e = ap (map (λ c. c.name)) (sym (ok-same [] changes e))
-folded-names value (c ∷ cs) changes e =
-    by (folded_from c (value c.name)) (all_folded value cs) (folded-names value cs) e where
-      by : (first : Result Datum Failure) (rest : Result (List ChangeData) Failure)
-          → ((ds : List ChangeData) → rest ≡ Ok ds
-          → map (λ c. c.name) ds ≡ map (λ c. c.name) cs)
-          → in_front c.name first rest ≡ Ok changes
-          → map (λ c. c.name) changes ≡ c.name ∷ map (λ c. c.name) cs
-      by (Err f) rest behind e = cc
-      by (Ok d) (Err f) behind e = cc
-      by (Ok d) (Ok ds) behind e =
-          ap (map (λ c. c.name)) (sym (ok-same (record { name = c.name; now = d } ∷ ds) changes e))
-          ∙ ap (λ ns. c.name ∷ ns) (behind ds refl)
 
 concluded_commit-seen_of
     : (seat : ℕ) (sets : List ChangeData) (s : Store) (folds : Result (List ChangeData) Failure)

@@ -7,7 +7,7 @@ use Rattle.std.proofs.lemmas.Bool.{cases_Bool, leb-true, leb-false, le-leb, lt-l
 use Rattle.std.proofs.lemmas.List.{length-map}
 use Rattle.std.proofs.Math.Seq.{drop-nil}
 use Rattle.value_data.specs.Datum.{Datum}
-use Rattle.server_rules.specs.Versions.{Version, Ref, at_point, newest, is_newer, with_version}
+use Rattle.ref_history.specs.Versioned.{Version, Ref, at_point, newest, is_newer, with_version}
 use Rattle.server_rules.specs.Isolation.View.{content_of, count_at}
 use Rattle.server_rules.proofs.Seen.{first}
 

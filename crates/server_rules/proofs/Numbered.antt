@@ -4,7 +4,7 @@ use Rattle.std.proofs.Common.{if◌then◌else◌, Option, Some, None, refl, sym
 use Rattle.std.proofs.Common.{slice_get}
 use Rattle.std.specs.Prelude.{option_map}
 use Rattle.std.proofs.lemmas.Bool.{eqb-true, ne_eqb, eq-eqb}
-use Rattle.server_rules.specs.Numbered.{changed_at, Entry, entry, part_under, with_part, without}
+use Rattle.ref_table.specs.Numbered.{changed_at, Entry, entry, part_under, with_part, without}
 use Rattle.server_rules.specs.Isolation.View.{map_entry}
 
 pub none-some : {A : Type 0} {x : A} → ◌≡◌ {A = Option A} None (Some x) → ⊥

@@ -3,7 +3,7 @@ use Rattle.std.proofs.Common.{◌≡◌, ℕ, suc, ◌==◌, ◌≤◌, List, []
 use Rattle.std.proofs.Common.{if◌then◌else◌, Some, refl, sym, ap, ◌∙◌, subst, arith}
 use Rattle.std.specs.Prelude.{find}
 use Rattle.std.proofs.lemmas.Bool.{eqb-true, eq-eqb, ne_eqb}
-use Rattle.server_rules.specs.Numbered.{Entry, entry, part_under, with_part, without}
+use Rattle.ref_table.specs.Numbered.{Entry, entry, part_under, with_part, without}
 use Rattle.server_rules.proofs.Numbered.{none-some, some-same}
 
 -- the numbers rise, from one on, and stay below another

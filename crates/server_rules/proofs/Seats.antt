@@ -13,9 +13,9 @@ use Rattle.repl_replies.specs.Replies.{OriginData, ReplyData}
 use Rattle.repl_replies.specs.Operations as operations
 use Rattle.repl_replies.specs.Operations.{AskedData, OperationData, operation_or_reply}
 use Rattle.repl_sessions.specs.Named.{number_named}
-use Rattle.server_rules.specs.Numbered.{Entry, entry, part_under, with_part}
-use Rattle.server_rules.specs.Store.{Store}
-use Rattle.server_rules.specs.Calls.{performed}
+use Rattle.ref_table.specs.Numbered.{Entry, entry, part_under, with_part}
+use Rattle.ref_table.specs.Store.{Store}
+use Rattle.ref_table.specs.Calls.{performed}
 use Rattle.server_rules.specs.Ground.{Ground}
 use Rattle.server_rules.specs.Request.{Waiting, ProgramText, code, file, Hand, Run}
 use Rattle.server_rules.specs.Tenant.{ActorData, unoccupied, seat_of, Quiet, is_held, with_actor}

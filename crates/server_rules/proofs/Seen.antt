@@ -10,17 +10,17 @@ use Rattle.repl_asks.specs.Transactions.{RefNameData, ChangeData, IntentData}
 use Rattle.repl_asks.specs.Exchange as exchange
 use Rattle.repl_asks.specs.Exchange.{AnswerData, done, value, reading, found, retry, verdict}
 use Rattle.repl_asks.specs.Exchange.{committed, conflict}
-use Rattle.server_rules.specs.Numbered as numbered
-use Rattle.server_rules.specs.Numbered.{changed_at, entry, without}
+use Rattle.ref_table.specs.Numbered as numbered
+use Rattle.ref_table.specs.Numbered.{changed_at, entry, without}
 use Rattle.server_rules.specs.Isolation.View.{map_entry}
-use Rattle.server_rules.specs.Versions.{RefOf, new_ref, with_version, with_failed_read, with_least}
-use Rattle.server_rules.specs.Versions.{with_most}
-use Rattle.server_rules.specs.Performed.{Performed, as_was, tells}
-use Rattle.server_rules.specs.Commit.{guarded_refs, touched_refs, intent_fits, all_folded}
-use Rattle.server_rules.specs.Calls.{Call, nothing, makes, begins, leaves_attempt, reads, counts}
-use Rattle.server_rules.specs.Calls.{tells_least, tells_most, sets_least, sets_most, commits}
-use Rattle.server_rules.specs.Calls.{inside, outside, told_inside, told_outside}
-use Rattle.server_rules.specs.Calls.{gives_up, number_told}
+use Rattle.ref_history.specs.Versioned.{RefOf, new_ref, with_version, with_failed_read, with_least}
+use Rattle.ref_history.specs.Versioned.{with_most}
+use Rattle.ref_table.specs.Performed.{Performed, as_was, tells}
+use Rattle.ref_table.specs.Commit.{guarded_refs, touched_refs, intent_fits, all_folded}
+use Rattle.ref_table.specs.Calls.{Call, nothing, makes, begins, leaves_attempt, reads, counts}
+use Rattle.ref_table.specs.Calls.{tells_least, tells_most, sets_least, sets_most, commits}
+use Rattle.ref_table.specs.Calls.{inside, outside, told_inside, told_outside}
+use Rattle.ref_table.specs.Calls.{gives_up, number_told}
 use Rattle.server_rules.specs.Isolation.View.{Seen}
 use Rattle.server_rules.specs.Isolation.Privacy.{IsOwned, AreOwned}
 

@@ -5,19 +5,19 @@ use Rattle.std.specs.Prelude.{Result, Ok, Err}
 use Rattle.value_data.specs.Datum.{Datum, OwnerData, shared, tenant}
 use Rattle.repl_values.specs.Failure.{Failure}
 use Rattle.repl_asks.specs.Transactions.{RefNameData, ChangeData, IntentData}
-use Rattle.server_rules.specs.Numbered.{changed_at, Entry, part_under, without}
-use Rattle.server_rules.specs.Versions.{Ref, new_ref, with_version, with_failed_read, with_least}
-use Rattle.server_rules.specs.Versions.{with_most, readable}
-use Rattle.server_rules.specs.Store.{Own, Store, ref_named, newest_value, with_changed_ref}
-use Rattle.server_rules.specs.Store.{changed_of, left_attempt}
-use Rattle.server_rules.specs.Commit.{guarded_refs, touched_refs, all_there, intent_fits, any_newer}
-use Rattle.server_rules.specs.Commit.{all_folded, with_changes, with_raised_counter, with_all}
-use Rattle.server_rules.specs.Commit.{concluded_commit, checked_commit, commit_by}
-use Rattle.server_rules.specs.Calls.{Call, nothing, makes, begins, leaves_attempt, reads, counts}
-use Rattle.server_rules.specs.Calls.{tells_least, tells_most, sets_least, sets_most, commits}
-use Rattle.server_rules.specs.Calls.{inside, outside}
-use Rattle.server_rules.specs.Calls.{gives_up, performed_begin, read_at, read_by, bound_set}
-use Rattle.server_rules.specs.Calls.{given_up, performed}
+use Rattle.ref_table.specs.Numbered.{changed_at, Entry, part_under, without}
+use Rattle.ref_history.specs.Versioned.{Ref, new_ref, with_version, with_failed_read, with_least}
+use Rattle.ref_history.specs.Versioned.{with_most, readable}
+use Rattle.ref_table.specs.Store.{Own, Store, ref_named, newest_value, with_changed_ref}
+use Rattle.ref_table.specs.Store.{changed_of, left_attempt}
+use Rattle.ref_table.specs.Commit.{guarded_refs, touched_refs, all_there, intent_fits, any_newer}
+use Rattle.ref_table.specs.Commit.{all_folded, with_changes, with_raised_counter, with_all}
+use Rattle.ref_table.specs.Commit.{concluded_commit, checked_commit, commit_by}
+use Rattle.ref_table.specs.Calls.{Call, nothing, makes, begins, leaves_attempt, reads, counts}
+use Rattle.ref_table.specs.Calls.{tells_least, tells_most, sets_least, sets_most, commits}
+use Rattle.ref_table.specs.Calls.{inside, outside}
+use Rattle.ref_table.specs.Calls.{gives_up, performed_begin, read_at, read_by, bound_set}
+use Rattle.ref_table.specs.Calls.{given_up, performed}
 use Rattle.repl_asks.specs.Exchange.{AnswerData}
 use Rattle.server_rules.proofs.Counting.{Fall, Fall-higher}
 

@@ -5,9 +5,9 @@ use Rattle.std.proofs.Common.{subst}
 use Rattle.std.specs.Prelude.{⊤, option_map, find}
 use Rattle.std.proofs.lemmas.Bool.{eqb-true, false≢true}
 use Rattle.repl_asks.specs.Exchange.{AnswerData}
-use Rattle.server_rules.specs.Numbered.{Entry, part_under}
-use Rattle.server_rules.specs.Store.{Store}
-use Rattle.server_rules.specs.Calls.{performed}
+use Rattle.ref_table.specs.Numbered.{Entry, part_under}
+use Rattle.ref_table.specs.Store.{Store}
+use Rattle.ref_table.specs.Calls.{performed}
 use Rattle.server_rules.specs.Ground.{Ground}
 use Rattle.server_rules.specs.Request.{Waiting, Hand}
 use Rattle.server_rules.specs.Tenant.{ActorData, actor_at, seat_of, Quiet, is_held}

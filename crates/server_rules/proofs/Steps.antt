@@ -6,10 +6,10 @@ use Rattle.std.specs.Prelude.{option_map, ⊤}
 use Rattle.std.proofs.lemmas.Bool.{ne_eqb, cases_eq}
 use Rattle.repl_asks.specs.Exchange as exchange
 use Rattle.repl_asks.specs.Exchange.{AskData}
-use Rattle.server_rules.specs.Numbered.{Entry, entry, part_under, with_part}
-use Rattle.server_rules.specs.Store.{Store}
-use Rattle.server_rules.specs.Performed.{Performed}
-use Rattle.server_rules.specs.Calls.{nothing, inside, gives_up, performed}
+use Rattle.ref_table.specs.Numbered.{Entry, entry, part_under, with_part}
+use Rattle.ref_table.specs.Store.{Store}
+use Rattle.ref_table.specs.Performed.{Performed}
+use Rattle.ref_table.specs.Calls.{nothing, inside, gives_up, performed}
 use Rattle.server_rules.specs.Ground.{Ground}
 use Rattle.server_rules.specs.Request.{Hand, Run}
 use Rattle.server_rules.specs.Tenant.{ActorData, seat_of, Quiet, is_held}

@@ -11,9 +11,9 @@ use Rattle.name_spaces.specs.Namespaces.{Namespaces, with_entered_namespace, wit
 use Rattle.name_spaces.specs.Resolving as names
 use Rattle.name_spaces.specs.Resolving.{FoundData, found_resolution, found_latest}
 use Rattle.name_spaces.specs.declared.latest.Latest.{Latest}
-use Rattle.server_rules.specs.Calls.{Call, nothing, makes, begins, reads, counts, tells_least}
-use Rattle.server_rules.specs.Calls.{tells_most, sets_least, sets_most, commits, inside, outside}
-use Rattle.server_rules.specs.Calls.{gives_up}
+use Rattle.ref_table.specs.Calls.{Call, nothing, makes, begins, reads, counts, tells_least}
+use Rattle.ref_table.specs.Calls.{tells_most, sets_least, sets_most, commits, inside, outside}
+use Rattle.ref_table.specs.Calls.{gives_up}
 use Rattle.server_rules.specs.Cells.{CellsData, has_named, cell_answer, SenderData, cells_after}
 use Rattle.server_rules.specs.Cells.{must_wait}
 use Rattle.server_rules.specs.Ground.{Ground}

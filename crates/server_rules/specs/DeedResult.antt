@@ -1,6 +1,6 @@
 -- What a deed of a tenant comes to, with the refs that it reaches.
-use Rattle.server_rules.specs.Store.{Store}
-use Rattle.server_rules.specs.Calls.{performed}
+use Rattle.ref_table.specs.Store.{Store}
+use Rattle.ref_table.specs.Calls.{performed}
 use Rattle.server_rules.specs.Ground.{Ground}
 use Rattle.server_rules.specs.Tenant.{Quiet}
 use Rattle.server_rules.specs.Plan.{Deed, Outcome, Plan}

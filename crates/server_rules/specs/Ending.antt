@@ -1,7 +1,7 @@
 -- Ending: an evaluation comes back at its end, and its form is answered. An action's value becomes the
 -- state of its agent.
 use Rattle.std.specs.Prelude.{ℕ, Bool, true, false, Option, None, Some, if◌then◌else◌}
-use Rattle.server_rules.specs.Calls.{leaves_attempt}
+use Rattle.ref_table.specs.Calls.{leaves_attempt}
 use Rattle.server_rules.specs.Ground.{Ground}
 use Rattle.server_rules.specs.Request.{Manner, of_action, Hand, Run}
 use Rattle.server_rules.specs.Cells.{CellsData, with_agents, agents_ended}

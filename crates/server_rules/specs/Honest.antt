@@ -2,7 +2,7 @@
 use Rattle.std.specs.Prelude.{Option, None, Some}
 use Rattle.repl_asks.specs.InteractionTree.{InteractionTree, finished, asks}
 use Rattle.repl_asks.specs.Leading.{tree_after}
-use Rattle.server_rules.specs.Numbered.{part_under}
+use Rattle.ref_table.specs.Numbered.{part_under}
 use Rattle.server_rules.specs.Ground.{Ground}
 use Rattle.server_rules.specs.Request.{Hand, Run}
 use Rattle.server_rules.specs.Tenant.{ActorData, seat_of, Quiet}

@@ -1,9 +1,3 @@
-pub mod Numbered
-pub mod Versions
-pub mod Store
-pub mod Performed
-pub mod Commit
-pub mod Calls
 pub mod Readings
 pub mod Comparisons
 pub mod Shared

@@ -1,6 +1,6 @@
 -- The turns of a tenant that is served alone, and what a list of them serves.
 use Rattle.std.specs.Prelude.{ℕ, List, [], ◌∷◌, ◌++◌, Some, map, filter, Bool, true, false, not}
-use Rattle.server_rules.specs.Store.{Around, Own, Store}
+use Rattle.ref_table.specs.Store.{Around, Own, Store}
 use Rattle.server_rules.specs.Ground.{Ground}
 use Rattle.server_rules.specs.Tenant.{Quiet, opened_quiet}
 use Rattle.server_rules.specs.Tenant.{actor_at}

@@ -10,7 +10,7 @@ use Rattle.repl_replies.specs.Replies as replies
 use Rattle.repl_replies.specs.Replies.{OriginData, ReplyData}
 use Rattle.repl_replies.specs.Operations as operations
 use Rattle.repl_replies.specs.Operations.{AskedData, OperationData}
-use Rattle.server_rules.specs.Numbered.{Entry, entry, part_under, with_part, without}
+use Rattle.ref_table.specs.Numbered.{Entry, entry, part_under, with_part, without}
 use Rattle.server_rules.specs.Ground.{Ground}
 use Rattle.server_rules.specs.Request.{Waiting, ProgramText, code, file, Hand}
 use Rattle.server_rules.specs.Tenant.{ActorData, unoccupied, seat_of, Quiet, with_actor}

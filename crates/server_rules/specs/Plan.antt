@@ -2,7 +2,7 @@
 use Rattle.std.specs.Prelude.{ℕ, ◌-◌, List, [], Option}
 use Rattle.repl_asks.specs.Exchange.{AskData, AnswerData}
 use Rattle.repl_asks.specs.Job.{JobData, EndingData}
-use Rattle.server_rules.specs.Calls.{Call, nothing}
+use Rattle.ref_table.specs.Calls.{Call, nothing}
 use Rattle.server_rules.specs.Tenant.{Quiet}
 use Rattle.server_rules.specs.declared.actor.Actor.{Actor}
 use Rattle.server_rules.specs.declared.refusal.Refusal.{Refusal}

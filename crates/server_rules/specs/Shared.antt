@@ -17,8 +17,8 @@ use Rattle.name_spaces.specs.Namespaces.{no_namespaces}
 use Rattle.name_spaces.specs.Resolving as names
 use Rattle.name_spaces.specs.Resolving.{FoundData, found_resolution, found_latest}
 use Rattle.server_rules.specs.Readings.{Readings, text_failure}
-use Rattle.server_rules.specs.Versions.{Ref, new_ref}
-use Rattle.server_rules.specs.Store.{newest_in_ref}
+use Rattle.ref_history.specs.Versioned.{Ref, new_ref}
+use Rattle.ref_table.specs.Store.{newest_in_ref}
 
 -- what the names of the shared namespace are bound to, and its refs, by their numbers
 pub record SharedData : Type 0 where

@@ -11,7 +11,7 @@ use Rattle.repl_sessions.specs.State.{StateData, fresh}
 use Rattle.name_spaces.specs.Namespaces.{Namespaces, is_there}
 use Rattle.repl_replies.specs.Fields.{text_of}
 use Rattle.repl_replies.specs.Replies.{OriginData, namespace_not_found, interrupted}
-use Rattle.server_rules.specs.Numbered.{without}
+use Rattle.ref_table.specs.Numbered.{without}
 use Rattle.server_rules.specs.Readings.{ProgramData, text_failure}
 use Rattle.server_rules.specs.Ground.{Ground}
 use Rattle.server_rules.specs.Request.{Waiting, ProgramText, code, file, Manner, Hand, each_form}

@@ -6,7 +6,7 @@ use Rattle.repl_sessions.specs.Sessions as sessions
 use Rattle.repl_sessions.specs.Sessions.{SessionsData, none_open, with_change}
 use Rattle.name_spaces.specs.Namespaces.{Namespaces, at_start}
 use Rattle.repl_replies.specs.Replies.{ReplyData}
-use Rattle.server_rules.specs.Numbered.{Entry, entry, with_part}
+use Rattle.ref_table.specs.Numbered.{Entry, entry, with_part}
 use Rattle.server_rules.specs.Cells.{CellsData, no_cells}
 use Rattle.server_rules.specs.Request.{Waiting, Hand}
 use Rattle.server_rules.specs.Ground.{Ground}

@@ -6,10 +6,10 @@ use Rattle.std.specs.List.{AllByRecursion}
 use Rattle.value_data.specs.Datum.{Datum, OwnerData, shared, tenant}
 use Rattle.repl_asks.specs.Transactions.{RefNameData}
 use Rattle.repl_asks.specs.Exchange.{reading, found}
-use Rattle.server_rules.specs.Calls.{performed, reads, read_by}
+use Rattle.ref_table.specs.Calls.{performed, reads, read_by}
 use Rattle.server_rules.specs.Shared.{value_in_ref}
-use Rattle.server_rules.specs.Store.{Store, ref_named, ref_of, newest_in_ref}
-use Rattle.server_rules.specs.Versions.{Ref, new_ref}
+use Rattle.ref_table.specs.Store.{Store, ref_named, ref_of, newest_in_ref}
+use Rattle.ref_history.specs.Versioned.{Ref, new_ref}
 use Rattle.ref_history.specs.RingHistories.{RingStands}
 use Rattle.ref_table.specs.Refs.{Refs, store_of, refs_after, with_ref}
 use Rattle.ref_table.specs.Standing.{TableStands}

@@ -7,7 +7,7 @@ ghost use Rattle.value_data.specs.Inside.View.{view};
 ghost use Rattle.repl_asks.specs.Exchange.{done, value as value_told, reading, found};
 ghost use Rattle.repl_asks.specs.Inside.View.{ask_view, answer_view, name_view, resolution_view};
 ghost use Rattle.name_spaces.specs.Inside.Seen.{defined_bindings, found_view};
-ghost use Rattle.server_rules.specs.Versions.{Ref, new_ref};
+ghost use Rattle.ref_history.specs.Versioned.{Ref, new_ref};
 ghost use Rattle.server_rules.specs.Shared as meant;
 ghost use Rattle.server_rules.specs.Shared.{SharedData, value_in_ref};
 ghost use Rattle.shared_space.specs.Holding.{HoldsRefs, HoldsShared};

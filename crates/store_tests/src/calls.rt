@@ -3,9 +3,9 @@
 use crate::given::Given::{Atom, Int, Ref};
 use crate::given::{FIRST, Given, OURS, value_of, values_of};
 use core_functions::StoreFunction;
+use evaluation_rules::{Alteration, Altered, Call, call, ref_to_alter};
 use std::alloc::{AllocError, Global};
 use std::test::Fail;
-use store_calls::{Alteration, Altered, Call, call, ref_to_alter};
 
 const NOT_PLAIN: &str = "Only plain data goes into a shared ref";
 

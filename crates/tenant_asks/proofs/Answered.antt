@@ -2,11 +2,11 @@
 use Rattle.std.proofs.Common.{◌≡◌, ℕ, true, false, Option, None, Some, MatchOption, Result, Ok, Err}
 use Rattle.std.proofs.Common.{IfOk, refl, sym, ap, subst, ◌∙◌, Bool, is_some, true≢false}
 use Rattle.repl_asks.specs.Exchange.{AskData, AnswerData, done}
-use Rattle.server_rules.specs.Calls.{Call, performed}
+use Rattle.ref_table.specs.Calls.{Call, performed}
 use Rattle.server_rules.specs.Cells.{CellsData, SenderData, with_sends_if}
-use Rattle.server_rules.specs.Performed.{Performed, tells}
+use Rattle.ref_table.specs.Performed.{Performed, tells}
 use Rattle.server_rules.specs.Ground.{Ground}
-use Rattle.server_rules.specs.Store.{Store}
+use Rattle.ref_table.specs.Store.{Store}
 use Rattle.server_rules.specs.Tenant.{Quiet, seat_of}
 use Rattle.server_rules.specs.Asking.{answer_to, quiet_after, call_of, is_allowed}
 use Rattle.server_rules.specs.declared.actor.Actor.{Actor}

@@ -6,15 +6,15 @@ use Rattle.std.specs.Result.{IsErrAnd}
 use Rattle.std.proofs.lemmas.Bool.{and_parts, ltb-true}
 use Rattle.repl_asks.specs.Exchange as exchange
 use Rattle.repl_asks.specs.Exchange.{AskData, AnswerData}
-use Rattle.server_rules.specs.Calls.{Call, nothing, inside, gives_up, performed, given_up, told_inside}
-use Rattle.server_rules.specs.Calls.{told_outside}
+use Rattle.ref_table.specs.Calls.{Call, nothing, inside, gives_up, performed, given_up, told_inside}
+use Rattle.ref_table.specs.Calls.{told_outside}
 use Rattle.server_rules.specs.Ground.{Ground}
 use Rattle.server_rules.specs.Request.{Hand, Run}
-use Rattle.server_rules.specs.Store.{Store, left_attempt}
+use Rattle.ref_table.specs.Store.{Store, left_attempt}
 use Rattle.server_rules.specs.Tenant.{ActorData, Quiet, seat_of}
-use Rattle.server_rules.specs.Numbered as numbered
-use Rattle.server_rules.specs.Numbered.{with_part}
-use Rattle.server_rules.specs.Performed.{as_was, tells}
+use Rattle.ref_table.specs.Numbered as numbered
+use Rattle.ref_table.specs.Numbered.{with_part}
+use Rattle.ref_table.specs.Performed.{as_was, tells}
 use Rattle.server_rules.specs.Asking.{asked_of, asked_running, asked_allowed, ask_outcome, may_ask}
 use Rattle.server_rules.specs.Asking.{session_of, send_call}
 use Rattle.server_rules.specs.Asking.{answer_to, spaces_after, quiet_after}

@@ -3,7 +3,7 @@ use Rattle.std.proofs.Common.{◌≡◌, ℕ, List, [], ◌∷◌, refl, sym, �
 use Rattle.std.specs.Result.{IsErrAnd}
 use Rattle.repl_replies.specs.Replies.{ReplyData, interrupted}
 use Rattle.repl_sessions.specs.State.{StateData}
-use Rattle.server_rules.specs.Numbered.{without}
+use Rattle.ref_table.specs.Numbered.{without}
 use Rattle.server_rules.specs.Ground.{Ground}
 use Rattle.server_rules.specs.Request.{Hand}
 use Rattle.server_rules.specs.Tenant.{ActorData, Quiet, seat_of, with_replies, with_state}

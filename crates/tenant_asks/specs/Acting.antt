@@ -1,7 +1,7 @@
 -- What an actor's step makes of the actor and of the tenant's memory, beside what the rules make of
 -- the tenant.
 use Rattle.std.specs.Prelude.{◌≡◌, ◌≢◌, ◌<◌, ℕ, List, Bool, true, false, length, Result, Err, OnErr}
-use Rattle.server_rules.specs.Numbered.{Entry, with_part, without}
+use Rattle.ref_table.specs.Numbered.{Entry, with_part, without}
 use Rattle.server_rules.specs.Ground.{Ground}
 use Rattle.server_rules.specs.Tenant.{ActorData, Quiet, seat_of}
 use Rattle.server_rules.specs.Plan.{StepAnswer, request_interrupted, Outcome, refuses, leaves}

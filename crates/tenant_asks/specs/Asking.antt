@@ -3,8 +3,8 @@ use Rattle.std.specs.Prelude.{◌≡◌, ℕ, Bool, true, false, Some, [], ◌�
 use Rattle.std.specs.Prelude.{if◌then◌else◌}
 use Rattle.repl_asks.specs.Exchange as exchange
 use Rattle.repl_asks.specs.Exchange.{AskData, AnswerData, Exchanged}
-use Rattle.server_rules.specs.Performed.{Performed}
-use Rattle.server_rules.specs.Store.{Store}
+use Rattle.ref_table.specs.Performed.{Performed}
+use Rattle.ref_table.specs.Store.{Store}
 use Rattle.server_rules.specs.Cells.{SenderData}
 use Rattle.server_rules.specs.Ground.{Ground}
 use Rattle.server_rules.specs.Request.{Hand, Run}

@@ -7,7 +7,7 @@ use Rattle.server_rules.specs.Asking.{asked_of}
 use Rattle.server_rules.specs.DeedResult.{DeedResult, carried_out}
 use Rattle.server_rules.specs.Ground.{Ground}
 use Rattle.server_rules.specs.Plan.{StepAnswer}
-use Rattle.server_rules.specs.Store.{Store}
+use Rattle.ref_table.specs.Store.{Store}
 use Rattle.server_rules.specs.Tenant.{ActorData, Quiet}
 use Rattle.server_rules.specs.declared.actor.Actor.{Actor}
 use Rattle.server_rules.specs.declared.refusal.Refusal.{Refusal}

@@ -9,7 +9,6 @@ ghost use Rattle.server_rules.specs.Tenant.{Quiet, actor_state, with_state, with
 ghost use Rattle.server_rules.specs.Starting.{first_state};
 ghost use Rattle.server_rules.specs.Moves.{Move};
 ghost use Rattle.tenant_parts.specs.Replies.{made_bytes};
-ghost use Rattle.tenant_moves.specs.Told.{Tells};
 ghost use Rattle.tenant_asks.specs.Memories.{Remembers, opened_by};
 
 use crate::cells::Cells;
@@ -17,7 +16,6 @@ use name_spaces::Spaces;
 use repl_sessions::{SessionState, Sessions};
 use server_rules::Actor;
 use std::alloc::{AllocError, Global};
-use tenant_moves::News;
 use tenant_parts::{Batch, Outbox};
 
 /// What the requests of a tenant share.
@@ -109,16 +107,21 @@ impl Memory {
 
     /// Lets the replies to a request wait, and puts the state in that its session then has. It
     /// fails only for want of memory, and then changes nothing.
-    pub fn post_news(&mut self, actor: Actor, news: News) -> Result<(), AllocError>
+    pub fn post_with_state(
+        &mut self,
+        actor: Actor,
+        batch: Batch,
+        state: SessionState,
+    ) -> Result<(), AllocError>
         ensures taken { (g : Ground) (t : ℕ) (q : Quiet) (m : Move) → Remembers g t self.old q
-            → Tells m news → OnOk result (Remembers g t self.new
+            → made_bytes batch ≡ map bytes_of m.replies → state_view state ≡ m.state
+            → OnOk result (Remembers g t self.new
             (with_replies m.replies (with_state actor m.state q))) }
         ensures stays { (g : Ground) (t : ℕ) (q : Quiet) → Remembers g t self.old q
             → OnErr result (Remembers g t self.new q) }
         ensures opened { opened_by self.new ≡ opened_by self.old }
         ensures cells { self.new.cells ≡ self.old.cells }
     {
-        let News { batch, state } = news;
         self.post(batch)?;
         self.put_state(actor, state);
         Ok(())

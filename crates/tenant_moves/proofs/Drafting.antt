@@ -17,7 +17,7 @@ use Rattle.repl_replies.specs.Operations.{AskedData}
 use Rattle.repl_replies.specs.Replies as replies
 use Rattle.repl_replies.specs.Replies.{OriginData, ReplyData, bytes_of}
 use Rattle.server_rules.specs.Ground.{Ground}
-use Rattle.server_rules.specs.Numbered.{Entry, entry, part_under}
+use Rattle.ref_table.specs.Numbered.{Entry, entry, part_under}
 use Rattle.server_rules.specs.Operating.{ids_for, with_vacated_seat, named_sessions, with_clone}
 use Rattle.server_rules.specs.Operating.{closed_by, with_close, interruption, asker, queued_for}
 use Rattle.server_rules.specs.Operating.{with_asked, with_message}

@@ -18,7 +18,7 @@ use Rattle.repl_replies.specs.Replies.{OriginData, ReplyData}
 use Rattle.server_rules.specs.Ground.{Ground}
 use Rattle.server_rules.specs.Hearing.{fault_in, stream_fault, with_messages, new_messages}
 use Rattle.server_rules.specs.Hearing.{fault_told, taken_in}
-use Rattle.server_rules.specs.Numbered.{Entry, part_under}
+use Rattle.ref_table.specs.Numbered.{Entry, part_under}
 use Rattle.server_rules.specs.Operating.{named_sessions, closed_by, asker, queued_for}
 use Rattle.server_rules.specs.Operating.{after_operation, with_asked, with_message}
 use Rattle.server_rules.specs.Readings.{AreRight, message_limit}

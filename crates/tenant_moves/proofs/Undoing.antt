@@ -2,7 +2,7 @@
 use Rattle.std.proofs.Common.{◌≡◌, ℕ, suc, ◌+◌, List, [], ◌∷◌, ◌++◌, refl, sym, ap, ap₂, ◌∙◌, subst}
 use Rattle.std.proofs.Common.{arith}
 use Rattle.repl_sessions.specs.Named.{NamedSessions}
-use Rattle.server_rules.specs.Numbered.{Entry, entry, without}
+use Rattle.ref_table.specs.Numbered.{Entry, entry, without}
 use Rattle.server_rules.specs.Tenant.{ActorData, unoccupied}
 use Rattle.tenant_parts.specs.View.{AreBelow}
 use Rattle.tenant_moves.specs.Holds.{AreSeated}

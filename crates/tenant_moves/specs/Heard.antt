@@ -4,7 +4,7 @@ use Rattle.bencode_wire.specs.declared.decoder.Decoder.{Decoder}
 use Rattle.repl_sessions.specs.Named.{NamedSessions}
 use Rattle.server_rules.specs.Ground.{Ground}
 use Rattle.server_rules.specs.Hearing.{new_messages, taken_in}
-use Rattle.server_rules.specs.Numbered.{Entry}
+use Rattle.ref_table.specs.Numbered.{Entry}
 use Rattle.server_rules.specs.Tenant.{ActorData, Quiet}
 use Rattle.tenant_moves.specs.Holds.{PartsStandFor}
 use Rattle.tenant_moves.specs.HasReadAll.{HasReadAll}

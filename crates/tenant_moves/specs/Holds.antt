@@ -3,7 +3,7 @@ use Rattle.std.specs.Prelude.{◌≡◌, ℕ, suc, List, map}
 use Rattle.repl_sessions.specs.Named.{NamedSessions}
 use Rattle.repl_replies.specs.Replies.{bytes_of}
 use Rattle.server_rules.specs.Ground.{Ground}
-use Rattle.server_rules.specs.Numbered.{Entry}
+use Rattle.ref_table.specs.Numbered.{Entry}
 use Rattle.server_rules.specs.Operating.{named_sessions}
 use Rattle.server_rules.specs.Tenant.{ActorData, Quiet}
 use Rattle.tenant_parts.specs.View.{AreBelow}

@@ -1,5 +1,5 @@
 -- A request that waits.
-use Rattle.server_rules.specs.Numbered.{part_under}
+use Rattle.ref_table.specs.Numbered.{part_under}
 use Rattle.server_rules.specs.Operating.{queued_for}
 use Rattle.server_rules.specs.Request.{Waiting}
 use Rattle.server_rules.specs.Tenant.{Quiet, seat_of}

@@ -6,7 +6,7 @@ use Rattle.repl_sessions.specs.Named.{NamedSessions}
 use Rattle.repl_sessions.specs.Inside.Leaving.{is_leaving, remaining_sessions}
 use Rattle.repl_replies.specs.Replies.{bytes_of}
 use Rattle.server_rules.specs.Ground.{Ground}
-use Rattle.server_rules.specs.Numbered.{Entry}
+use Rattle.ref_table.specs.Numbered.{Entry}
 use Rattle.server_rules.specs.Operating.{ids_for}
 use Rattle.server_rules.specs.Tenant.{ActorData, Quiet, seat_of}
 use Rattle.server_rules.specs.declared.actor.Actor.{Actor}

@@ -2,7 +2,7 @@
 use Rattle.std.specs.Prelude.{List, [], ◌∷◌}
 use Rattle.repl_sessions.specs.Named.{NamedSessions}
 use Rattle.repl_sessions.specs.Inside.Retracted.{without_newest_session}
-use Rattle.server_rules.specs.Numbered.{Entry, without}
+use Rattle.ref_table.specs.Numbered.{Entry, without}
 use Rattle.server_rules.specs.Tenant.{ActorData, seat_of}
 use Rattle.server_rules.specs.declared.actor.Actor.{Actor}
 use Rattle.tenant_parts.specs.Queues.{with_changed_actor, without_newest}

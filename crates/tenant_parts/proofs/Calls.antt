@@ -7,22 +7,22 @@ use Rattle.repl_asks.specs.Transactions.{RefNameData, ChangeData, IntentData}
 use Rattle.repl_values.specs.Failure.{Failure}
 use Rattle.repl_asks.specs.Exchange as exchange
 use Rattle.repl_asks.specs.Exchange.{AnswerData, reading, found, retry, verdict}
-use Rattle.server_rules.specs.Numbered as numbered
-use Rattle.server_rules.specs.Numbered.{without}
-use Rattle.server_rules.specs.Versions.{Ref, with_failed_read, with_least, with_most, with_version}
-use Rattle.server_rules.specs.Versions.{readable, newest}
-use Rattle.server_rules.specs.Store.{Store, ref_named, newest_value, changed_of, with_changed_ref}
-use Rattle.server_rules.specs.Store.{left_attempt}
-use Rattle.server_rules.specs.Commit.{guarded_refs, touched_refs, all_there, intent_fits, any_newer}
-use Rattle.server_rules.specs.Commit.{all_folded, with_changes, with_raised_counter, with_all}
-use Rattle.server_rules.specs.Commit.{concluded_commit, checked_commit, commit_by}
-use Rattle.server_rules.specs.Calls.{Call, nothing, makes, begins, leaves_attempt, reads, counts}
-use Rattle.server_rules.specs.Calls.{inside, outside}
-use Rattle.server_rules.specs.Calls.{tells_least, tells_most, sets_least, sets_most, commits}
+use Rattle.ref_table.specs.Numbered as numbered
+use Rattle.ref_table.specs.Numbered.{without}
+use Rattle.ref_history.specs.Versioned.{Ref, with_failed_read, with_least, with_most, with_version}
+use Rattle.ref_history.specs.Versioned.{readable, newest}
+use Rattle.ref_table.specs.Store.{Store, ref_named, newest_value, changed_of, with_changed_ref}
+use Rattle.ref_table.specs.Store.{left_attempt}
+use Rattle.ref_table.specs.Commit.{guarded_refs, touched_refs, all_there, intent_fits, any_newer}
+use Rattle.ref_table.specs.Commit.{all_folded, with_changes, with_raised_counter, with_all}
+use Rattle.ref_table.specs.Commit.{concluded_commit, checked_commit, commit_by}
+use Rattle.ref_table.specs.Calls.{Call, nothing, makes, begins, leaves_attempt, reads, counts}
+use Rattle.ref_table.specs.Calls.{inside, outside}
+use Rattle.ref_table.specs.Calls.{tells_least, tells_most, sets_least, sets_most, commits}
 use Rattle.server_rules.specs.Asking.{send_call}
-use Rattle.server_rules.specs.Performed.{as_was}
-use Rattle.server_rules.specs.Calls.{gives_up, performed_begin, read_at, read_by, bound_set}
-use Rattle.server_rules.specs.Calls.{given_up, performed}
+use Rattle.ref_table.specs.Performed.{as_was}
+use Rattle.ref_table.specs.Calls.{gives_up, performed_begin, read_at, read_by, bound_set}
+use Rattle.ref_table.specs.Calls.{given_up, performed}
 
 -- the same tenant with the same attempts
 pub record Same (old new : Store) : Type 0 where

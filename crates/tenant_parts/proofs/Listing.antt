@@ -6,7 +6,7 @@ use Rattle.std.proofs.Common.{OnErr}
 use Rattle.std.specs.List.{list_any}
 use Rattle.std.specs.BTreeSet.{BTreeSet, contains, Updates}
 use Rattle.std.proofs.lemmas.Bool.{eqb-true, ne_eqb}
-use Rattle.server_rules.specs.Numbered.{Entry, entry, part_under, with_part, without}
+use Rattle.ref_table.specs.Numbered.{Entry, entry, part_under, with_part, without}
 use Rattle.server_rules.specs.Machine.Ready.{has_waiting}
 use Rattle.server_rules.specs.Request.{Waiting, Hand}
 use Rattle.server_rules.specs.Tenant.{ActorData, actor_at, seat_of}

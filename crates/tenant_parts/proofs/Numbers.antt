@@ -3,12 +3,12 @@ use Rattle.std.proofs.Common.{◌≡◌, ◌<◌, ◌^◌, ℕ, Option, None, So
 use Rattle.std.specs.Prelude.{option_map}
 use Rattle.repl_asks.specs.Transactions.{RefNameData}
 use Rattle.repl_asks.specs.Exchange.{AnswerData}
-use Rattle.server_rules.specs.Versions.{Ref}
-use Rattle.server_rules.specs.Store.{Store, ref_named, changed_of}
-use Rattle.server_rules.specs.Performed.{as_was}
+use Rattle.ref_history.specs.Versioned.{Ref}
+use Rattle.ref_table.specs.Store.{Store, ref_named, changed_of}
+use Rattle.ref_table.specs.Performed.{as_was}
 use Rattle.value_data.specs.Datum.{OwnerData, shared, tenant}
-use Rattle.server_rules.specs.Versions.{with_least, with_most}
-use Rattle.server_rules.specs.Calls.{performed, number_told, bound_set, sets_least, sets_most}
+use Rattle.ref_history.specs.Versioned.{with_least, with_most}
+use Rattle.ref_table.specs.Calls.{performed, number_told, bound_set, sets_least, sets_most}
 use Rattle.ref_history.specs.Effects.{bounds_of}
 use Rattle.ref_history.specs.declared.ref_id.Bounds.{Bounds}
 use Rattle.ref_table.specs.Refs.{Refs, store_of}

@@ -3,7 +3,7 @@ use Rattle.std.proofs.Common.{◌≡◌, ◌≢◌, ◌==◌, ℕ, List, [], ◌
 use Rattle.std.proofs.Common.{None, Some, refl, sym, ap, ◌∙◌, true≢false}
 use Rattle.std.specs.Prelude.{option_map}
 use Rattle.std.proofs.lemmas.Bool.{eqb-true, eq-eqb, ne_eqb}
-use Rattle.server_rules.specs.Numbered.{Entry, part_under, without}
+use Rattle.ref_table.specs.Numbered.{Entry, part_under, without}
 use Rattle.server_rules.specs.Tenant.{seat_of}
 use Rattle.server_rules.specs.declared.actor.Actor.{Actor}
 use Rattle.tenant_parts.proofs.Seats.{at, at-seats}

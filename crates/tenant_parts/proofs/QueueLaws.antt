@@ -6,7 +6,7 @@ use Rattle.std.specs.Map.{keys_of, lookup, set_value}
 use Rattle.std.proofs.lemmas.Bool.{eqb-true}
 use Rattle.std.proofs.lemmas.List.{take_at}
 use Rattle.std.proofs.lemmas.Map.Steps.{set_value_same}
-use Rattle.server_rules.specs.Numbered.{Entry, entry, part_under, with_part}
+use Rattle.ref_table.specs.Numbered.{Entry, entry, part_under, with_part}
 use Rattle.server_rules.specs.Operating.{with_vacated_seat}
 use Rattle.server_rules.specs.Tenant.{actor_at}
 use Rattle.server_rules.specs.Request.{Waiting, Hand}

@@ -5,11 +5,11 @@ use mathlib.Core.Path.{fun_ext}
 use Rattle.std.proofs.lemmas.Bool.{eq-eqb}
 use Rattle.value_data.specs.Datum.{OwnerData, tenant}
 use Rattle.repl_asks.specs.Exchange.{AnswerData}
-use Rattle.server_rules.specs.Numbered.{Entry, without}
-use Rattle.server_rules.specs.Versions.{Ref}
-use Rattle.server_rules.specs.Store.{Store, left_attempt}
-use Rattle.server_rules.specs.Performed.{Performed, as_was}
-use Rattle.server_rules.specs.Calls.{Call, performed}
+use Rattle.ref_table.specs.Numbered.{Entry, without}
+use Rattle.ref_history.specs.Versioned.{Ref}
+use Rattle.ref_table.specs.Store.{Store, left_attempt}
+use Rattle.ref_table.specs.Performed.{Performed, as_was}
+use Rattle.ref_table.specs.Calls.{Call, performed}
 use Rattle.ref_history.specs.RingHistories.{RingStands}
 use Rattle.ref_table.specs.Refs.{Refs, store_of, refs_after}
 use Rattle.ref_table.specs.Standing as refs

@@ -9,20 +9,20 @@ use Rattle.value_data.specs.Datum.{Datum, OwnerData, shared, tenant}
 use Rattle.repl_values.specs.Failure.{Failure}
 use Rattle.repl_asks.specs.Transactions.{RefNameData, ChangeData, IntentData}
 use Rattle.repl_asks.specs.Exchange.{AnswerData}
-use Rattle.server_rules.specs.Numbered as numbered
-use Rattle.server_rules.specs.Numbered.{changed_at}
-use Rattle.server_rules.specs.Versions.{Version, Ref, new_ref, grows, with_failed_read, with_least}
-use Rattle.server_rules.specs.Versions.{with_most, with_version, readable}
-use Rattle.server_rules.specs.Store.{Store, ref_of, ref_named, newest_value, changed_of}
-use Rattle.server_rules.specs.Store.{with_changed_ref}
-use Rattle.server_rules.specs.Commit.{guarded_refs, touched_refs, all_there, intent_fits, any_newer}
-use Rattle.server_rules.specs.Commit.{all_folded, with_changes, with_raised_counter, with_all}
-use Rattle.server_rules.specs.Commit.{concluded_commit, checked_commit, commit_by}
-use Rattle.server_rules.specs.Calls.{Call, nothing, makes, begins, leaves_attempt, reads, counts}
-use Rattle.server_rules.specs.Calls.{inside, outside}
-use Rattle.server_rules.specs.Calls.{tells_least, tells_most, sets_least, sets_most, commits}
-use Rattle.server_rules.specs.Calls.{gives_up, performed_begin, read_at, read_by, bound_set}
-use Rattle.server_rules.specs.Calls.{given_up, performed}
+use Rattle.ref_table.specs.Numbered as numbered
+use Rattle.ref_table.specs.Numbered.{changed_at}
+use Rattle.ref_history.specs.Versioned.{Version, Ref, new_ref, grows, with_failed_read, with_least}
+use Rattle.ref_history.specs.Versioned.{with_most, with_version, readable}
+use Rattle.ref_table.specs.Store.{Store, ref_of, ref_named, newest_value, changed_of}
+use Rattle.ref_table.specs.Store.{with_changed_ref}
+use Rattle.ref_table.specs.Commit.{guarded_refs, touched_refs, all_there, intent_fits, any_newer}
+use Rattle.ref_table.specs.Commit.{all_folded, with_changes, with_raised_counter, with_all}
+use Rattle.ref_table.specs.Commit.{concluded_commit, checked_commit, commit_by}
+use Rattle.ref_table.specs.Calls.{Call, nothing, makes, begins, leaves_attempt, reads, counts}
+use Rattle.ref_table.specs.Calls.{inside, outside}
+use Rattle.ref_table.specs.Calls.{tells_least, tells_most, sets_least, sets_most, commits}
+use Rattle.ref_table.specs.Calls.{gives_up, performed_begin, read_at, read_by, bound_set}
+use Rattle.ref_table.specs.Calls.{given_up, performed}
 use Rattle.ref_table.specs.Refs.{Refs, store_of, refs_after}
 use Rattle.tenant_parts.specs.Sound.{IsSound, AreSound, ReachesSound}
 

@@ -6,13 +6,13 @@ use Rattle.value_data.specs.Datum.{Datum, OwnerData, shared, tenant}
 use Rattle.repl_values.specs.Failure.{Failure}
 use Rattle.repl_asks.specs.Transactions.{RefNameData, ChangeData, IntentData}
 use Rattle.repl_asks.specs.Exchange.{reading, found}
-use Rattle.server_rules.specs.Numbered as numbered
-use Rattle.server_rules.specs.Versions.{Ref, readable, newest, with_least, with_most}
-use Rattle.server_rules.specs.Store.{Store, ref_named, newest_value}
-use Rattle.server_rules.specs.Commit.{guarded_refs, touched_refs, all_there, intent_fits, any_newer}
-use Rattle.server_rules.specs.Commit.{all_folded, concluded_commit, checked_commit, commit_by}
-use Rattle.server_rules.specs.Calls.{performed, begins, reads, commits, performed_begin, read_at}
-use Rattle.server_rules.specs.Calls.{read_by, count_told, bound_set, number_told}
+use Rattle.ref_table.specs.Numbered as numbered
+use Rattle.ref_history.specs.Versioned.{Ref, readable, newest, with_least, with_most}
+use Rattle.ref_table.specs.Store.{Store, ref_named, newest_value}
+use Rattle.ref_table.specs.Commit.{guarded_refs, touched_refs, all_there, intent_fits, any_newer}
+use Rattle.ref_table.specs.Commit.{all_folded, concluded_commit, checked_commit, commit_by}
+use Rattle.ref_table.specs.Calls.{performed, begins, reads, commits, performed_begin, read_at}
+use Rattle.ref_table.specs.Calls.{read_by, count_told, bound_set, number_told}
 use Rattle.tenant_parts.specs.Bounds.{least_call, most_call, is_bounded}
 use Rattle.tenant_parts.specs.Sound.{ReachesSound}
 use Rattle.tenant_parts.proofs.Soundness.{ref_named-sound}

@@ -1,7 +1,7 @@
 -- What an actor is about to do.
 use Rattle.std.specs.Prelude.{ℕ, Bool, true, false, List, [], ◌∷◌, Option, None, Some, option_and_then}
 use Rattle.value_data.specs.Datum.{Items, no_items, item}
-use Rattle.server_rules.specs.Numbered.{Entry, part_under}
+use Rattle.ref_table.specs.Numbered.{Entry, part_under}
 use Rattle.server_rules.specs.Request.{ProgramText, code, file, Waiting, Hand, Manner}
 use Rattle.server_rules.specs.Request.{each_form, each_form_elsewhere, last_form, of_action}
 use Rattle.server_rules.specs.Tenant.{ActorData, seat_of}

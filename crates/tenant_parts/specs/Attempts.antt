@@ -1,8 +1,8 @@
 -- The attempts of a tenant's transactions, as the rules have them.
 use Rattle.std.specs.Prelude.{◌≡◌, ℕ, List, Option, option_map}
 use Rattle.std.specs.BTreeMap.{get}
-use Rattle.server_rules.specs.Numbered.{Entry, part_under}
-use Rattle.server_rules.specs.Store.{Store}
+use Rattle.ref_table.specs.Numbered.{Entry, part_under}
+use Rattle.ref_table.specs.Store.{Store}
 use Rattle.server_rules.specs.Tenant.{seat_of}
 use Rattle.server_rules.specs.contracts.actor.ActorOrd.TheImpl as order
 use Rattle.server_rules.specs.declared.actor.Actor.{Actor}

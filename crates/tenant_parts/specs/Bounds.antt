@@ -2,8 +2,8 @@
 use Rattle.std.specs.Prelude.{ℕ, Bool, true, false, Option, None, Some, is_some}
 use Rattle.value_data.specs.Datum.{OwnerData, shared, tenant}
 use Rattle.repl_asks.specs.Transactions.{RefNameData}
-use Rattle.server_rules.specs.Calls.{Call, tells_least, tells_most, sets_least, sets_most}
-use Rattle.server_rules.specs.Versions.{Ref}
+use Rattle.ref_table.specs.Calls.{Call, tells_least, tells_most, sets_least, sets_most}
+use Rattle.ref_history.specs.Versioned.{Ref}
 
 abbrev pub least_call : RefNameData → Option ℕ → Call
 least_call name None = tells_least name

@@ -1,7 +1,7 @@
 -- Which actors have something to do.
 pub use Rattle.server_rules.specs.Machine.Ready.{is_busy}
 use Rattle.std.specs.Prelude.{List, Bool, false, filter, map, Option, None, Some}
-use Rattle.server_rules.specs.Numbered.{Entry}
+use Rattle.ref_table.specs.Numbered.{Entry}
 use Rattle.server_rules.specs.Tenant.{ActorData, actor_at}
 use Rattle.server_rules.specs.declared.actor.Actor.{Actor}
 

@@ -1,7 +1,7 @@
 -- An actor is lent, to be changed in its place.
 use Rattle.std.specs.Prelude.{◌≡◌, ℕ, ◌<◌, List, [], ◌∷◌, ⊤, Option, Some, None, true}
 use Rattle.std.specs.Borrow.{LendsSo, MutBor, Fml}
-use Rattle.server_rules.specs.Numbered.{Entry, with_part}
+use Rattle.ref_table.specs.Numbered.{Entry, with_part}
 use Rattle.server_rules.specs.Tenant.{ActorData, seat_of}
 use Rattle.server_rules.specs.declared.actor.Actor.{Actor}
 use Rattle.tenant_parts.specs.Busy.{is_busy}

@@ -1,7 +1,7 @@
 -- Each actor that has something to do is listed, and that of agents always.
 use Rattle.std.specs.Prelude.{◌≡◌, ℕ, ◌==◌, List, [], ◌∷◌, Bool, true, false, not, ◌&&◌, ◌||◌}
 use Rattle.std.specs.BTreeSet.{BTreeSet, contains}
-use Rattle.server_rules.specs.Numbered.{Entry}
+use Rattle.ref_table.specs.Numbered.{Entry}
 use Rattle.server_rules.specs.Tenant.{ActorData, actor_at}
 use Rattle.server_rules.specs.contracts.actor.ActorOrd.TheImpl as order
 use Rattle.server_rules.specs.declared.actor.Actor.{Actor}

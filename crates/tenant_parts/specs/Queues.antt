@@ -1,6 +1,6 @@
 -- A request is put behind those that wait for an actor, or taken back, and an actor is vacated.
 use Rattle.std.specs.Prelude.{ℕ, ◌-◌, List, [], ◌∷◌, ◌++◌, take, length, Option, None, Some}
-use Rattle.server_rules.specs.Numbered.{Entry, part_under, with_part}
+use Rattle.ref_table.specs.Numbered.{Entry, part_under, with_part}
 use Rattle.server_rules.specs.Operating.{with_vacated_seat}
 use Rattle.server_rules.specs.Request.{Waiting}
 use Rattle.server_rules.specs.Tenant.{ActorData}

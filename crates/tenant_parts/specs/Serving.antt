@@ -1,8 +1,8 @@
 -- The table of refs serves a tenant.
 use Rattle.std.specs.Prelude.{◌≡◌, Option}
 use Rattle.repl_asks.specs.Exchange.{AnswerData}
-use Rattle.server_rules.specs.Performed.{Performed}
-use Rattle.server_rules.specs.Store.{Store}
+use Rattle.ref_table.specs.Performed.{Performed}
+use Rattle.ref_table.specs.Store.{Store}
 use Rattle.ref_history.specs.RingHistories.{RingStands}
 use Rattle.ref_history.specs.declared.ring_history.RingHistory.{RingHistory}
 use Rattle.ref_table.specs.Refs.{Refs, store_of}

@@ -3,8 +3,8 @@
 use Rattle.std.specs.Prelude.{◌≡◌, ◌<◌, ◌^◌, true, is_some}
 use Rattle.std.specs.List.{AllByRecursion}
 use Rattle.value_data.specs.Datum.{OwnerData}
-use Rattle.server_rules.specs.Store.{Store}
-use Rattle.server_rules.specs.Versions.{Ref, newest}
+use Rattle.ref_table.specs.Store.{Store}
+use Rattle.ref_history.specs.Versioned.{Ref, newest}
 use Rattle.ref_table.specs.Refs.{Refs}
 
 pub record IsSound (r : Ref) : Type 0 where

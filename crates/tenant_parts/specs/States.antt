@@ -9,7 +9,7 @@ use Rattle.repl_asks.specs.Inside.View.{exchange_view}
 use Rattle.repl_asks.specs.Inside.Jobs.{job_view}
 use Rattle.repl_asks.specs.declared.exchange.Exchange.{Exchange}
 use Rattle.repl_replies.specs.Inside.View.{field_view, origin_view}
-use Rattle.server_rules.specs.Numbered.{Entry, entry}
+use Rattle.ref_table.specs.Numbered.{Entry, entry}
 use Rattle.server_rules.specs.Request as rules
 use Rattle.server_rules.specs.Tenant.{ActorData, seat_of}
 use Rattle.server_rules.specs.declared.actor.Actor.{Actor}

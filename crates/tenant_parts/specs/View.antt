@@ -2,7 +2,7 @@
 pub use Rattle.tenant_parts.specs.States.{text_view, waiting_view, manner_view}
 pub use Rattle.tenant_parts.specs.States.{kept_trace, run_view, hand_view, actor_view, actor_entry_view}
 use Rattle.std.specs.Prelude.{ℕ, ◌<◌, List, [], ◌∷◌, ⊤, map}
-use Rattle.server_rules.specs.Numbered.{Entry}
+use Rattle.ref_table.specs.Numbered.{Entry}
 use Rattle.server_rules.specs.Tenant.{ActorData}
 use Rattle.tenant_parts.specs.declared.actors.Actors.{Actors}
 

@@ -2,7 +2,7 @@
 ghost use Rattle.std.specs.Prelude.{◌≡◌, [], ◌∷◌, ◌++◌, true, find, map, option_map, IfOk, OnOk};
 ghost use Rattle.std.specs.Prelude.{OnErr};
 ghost use Rattle.std.specs.Borrow.{sem};
-ghost use Rattle.server_rules.specs.Numbered.{entry, part_under, without};
+ghost use Rattle.ref_table.specs.Numbered.{entry, part_under, without};
 ghost use Rattle.server_rules.specs.Machine.Ready.{has_work, may_begin};
 ghost use Rattle.server_rules.specs.Tenant.{actor_at, seat_of, unoccupied};
 ghost use Rattle.tenant_parts.specs.Busy.{is_busy, busy_of, passes};

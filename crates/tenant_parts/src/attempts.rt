@@ -1,6 +1,6 @@
 // The attempts of a tenant's transactions.
 ghost use Rattle.std.specs.Prelude.{◌≡◌, ℕ, List, [], ◌∷◌, option_map, OnOk, OnErr};
-ghost use Rattle.server_rules.specs.Numbered.{Entry, entry, part_under, without};
+ghost use Rattle.ref_table.specs.Numbered.{Entry, entry, part_under, without};
 ghost use Rattle.server_rules.specs.Tenant.{seat_of};
 
 use ref_table::Point;

@@ -3,9 +3,9 @@ ghost use Rattle.std.specs.Prelude.{◌≡◌, ◌<◌, ◌≤◌, ◌+◌, ◌^
 ghost use Rattle.repl_asks.specs.Inside.View.{ask_view, name_view, intent_view};
 ghost use Rattle.value_data.specs.Inside.View.{view};
 ghost use Rattle.server_rules.specs.Asking.{call_of, is_allowed, may_be_set, send_call};
-ghost use Rattle.server_rules.specs.Calls.{performed, makes, begins, reads, counts, commits};
-ghost use Rattle.server_rules.specs.Calls.{outside};
-ghost use Rattle.server_rules.specs.Store.{Store};
+ghost use Rattle.ref_table.specs.Calls.{performed, makes, begins, reads, counts, commits};
+ghost use Rattle.ref_table.specs.Calls.{outside};
+ghost use Rattle.ref_table.specs.Store.{Store};
 ghost use Rattle.server_rules.specs.Tenant.{Quiet, seat_of};
 ghost use Rattle.ref_table.specs.Refs.{Refs};
 ghost use Rattle.ref_table.specs.Standing.{counter_of};

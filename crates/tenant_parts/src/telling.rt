@@ -2,8 +2,8 @@
 ghost use Rattle.std.specs.Prelude.{◌≡◌, is_some};
 ghost use Rattle.repl_asks.specs.Inside.View.{ask_view, name_view, intent_view};
 ghost use Rattle.server_rules.specs.Asking.{call_of, send_call};
-ghost use Rattle.server_rules.specs.Calls.{performed, counts, commits};
-ghost use Rattle.server_rules.specs.Store.{Store, ref_named};
+ghost use Rattle.ref_table.specs.Calls.{performed, counts, commits};
+ghost use Rattle.ref_table.specs.Store.{Store, ref_named};
 ghost use Rattle.server_rules.specs.Tenant.{seat_of};
 ghost use Rattle.ref_table.specs.Refs.{Refs};
 ghost use Rattle.tenant_parts.specs.Bounds.{is_bounded};

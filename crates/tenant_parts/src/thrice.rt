@@ -7,7 +7,7 @@ ghost use Rattle.repl_asks.specs.Exchange.{permission, granted};
 ghost use Rattle.repl_values.specs.Inside.FaultView.{failure_of};
 ghost use Rattle.repl_asks.specs.Exchange.{committed, conflict, faulted};
 ghost use Rattle.repl_asks.specs.Inside.View.{answer_view};
-ghost use Rattle.server_rules.specs.Calls.{number_told};
+ghost use Rattle.ref_table.specs.Calls.{number_told};
 
 use repl_asks::{Answer, Permission, Reading, Verdict};
 use repl_values::{Fault, RefName, Value, copy};

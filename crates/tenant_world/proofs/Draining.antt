@@ -10,7 +10,7 @@ use Rattle.server_rules.specs.Readings.{message_limit}
 use Rattle.tenant_parts.specs.View.{actors_view}
 use Rattle.repl_replies.specs.Replies.{ReplyData, bytes_of}
 use Rattle.server_rules.specs.Ground.{Ground}
-use Rattle.server_rules.specs.Store.{Store}
+use Rattle.ref_table.specs.Store.{Store}
 use Rattle.server_rules.specs.Tenant.{Quiet}
 use Rattle.server_rules.specs.Plan as deeds
 use Rattle.server_rules.specs.Plan.{leaves, reply_given}

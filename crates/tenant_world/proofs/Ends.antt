@@ -11,7 +11,7 @@ use Rattle.server_rules.specs.Ending.{end_of, end_running, end_checked, end_comp
 use Rattle.server_rules.specs.Ending.{with_left_attempt}
 use Rattle.server_rules.specs.Starting.{interrupted_in}
 use Rattle.server_rules.specs.Plan.{Plan, refuses, quietly}
-use Rattle.server_rules.specs.Store.{Store}
+use Rattle.ref_table.specs.Store.{Store}
 use Rattle.server_rules.specs.declared.actor.Actor.{Actor}
 use Rattle.server_rules.specs.declared.refusal.Refusal.{Refusal}
 use Rattle.trace_comparison.specs.Difference.{DiffersFirstAt}

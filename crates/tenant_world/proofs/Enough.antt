@@ -7,7 +7,7 @@ use Rattle.std.specs.Prelude.{⊤}
 use Rattle.std.proofs.Math.Dec.{eqb-suc-zero}
 use Rattle.std.proofs.lemmas.Bool.{ne_eqb, eq-eqb}
 use Rattle.server_rules.specs.Machine.Ready.{is_busy}
-use Rattle.server_rules.specs.Numbered.{Entry, part_under}
+use Rattle.ref_table.specs.Numbered.{Entry, part_under}
 use Rattle.server_rules.specs.Tenant.{ActorData, seat_of, actor_at}
 use Rattle.server_rules.specs.declared.actor.Actor.{Actor}
 use Rattle.server_rules.specs.LoneTurns.{Lone, is_of_agents, agents_last}

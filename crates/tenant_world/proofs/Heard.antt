@@ -14,13 +14,13 @@ use Rattle.tenant_asks.specs.Cells.{cells_data}
 use Rattle.server_rules.specs.Ground.{Ground}
 use Rattle.server_rules.specs.Hearing.{stream_fault, with_messages, new_messages, taken_in}
 use Rattle.server_rules.specs.Hearing.{hears_more}
-use Rattle.server_rules.specs.Numbered.{part_under}
+use Rattle.ref_table.specs.Numbered.{part_under}
 use Rattle.server_rules.specs.Operating.{named_sessions, closed_by, asker, queued_for}
 use Rattle.server_rules.specs.Operating.{after_operation, with_asked, with_message}
 use Rattle.server_rules.specs.Plan as deeds
 use Rattle.server_rules.specs.Plan.{Outcome, refuses, leaves, messages_heard, with_step_spent}
 use Rattle.server_rules.specs.Request.{Waiting}
-use Rattle.server_rules.specs.Store.{Store}
+use Rattle.ref_table.specs.Store.{Store}
 use Rattle.server_rules.specs.Tenant.{ActorData, seat_of, Quiet, is_held}
 use Rattle.server_rules.specs.declared.actor.Actor.{Actor}
 use Rattle.server_rules.specs.declared.refusal.Refusal.{Refusal}

@@ -1,7 +1,7 @@
 -- The state of an actor is lent, or its step is refused.
 use Rattle.std.proofs.Common.{◌≡◌, ℕ, suc, Bool, true, false, Option, None, Some, Result, Err, OnErr}
 use Rattle.std.proofs.Common.{refl, ap, subst, ◌∙◌, if◌then◌else◌, List}
-use Rattle.server_rules.specs.Numbered.{Entry, with_part}
+use Rattle.ref_table.specs.Numbered.{Entry, with_part}
 use Rattle.server_rules.specs.Tenant.{ActorData}
 use Rattle.server_rules.specs.declared.refusal.Refusal.{Refusal}
 use Rattle.tenant_parts.specs.Busy.{is_busy}

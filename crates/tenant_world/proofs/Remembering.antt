@@ -6,7 +6,7 @@ use Rattle.std.specs.Result.{IsErrAnd}
 use Rattle.std.proofs.lemmas.Bool.{le-leb, leb-true}
 use Rattle.std.proofs.lemmas.List.{length-map}
 use Rattle.repl_replies.specs.Replies.{bytes_of}
-use Rattle.server_rules.specs.Numbered.{Entry, with_part}
+use Rattle.ref_table.specs.Numbered.{Entry, with_part}
 use Rattle.server_rules.specs.Cells.{CellsData}
 use Rattle.server_rules.specs.Ground.{Ground}
 use Rattle.server_rules.specs.Tenant.{ActorData, Quiet, seat_of, is_held, with_replies, with_state}

@@ -9,13 +9,13 @@ use Rattle.bencode_wire.specs.Inside.Decoder as decoder
 use Rattle.bencode_wire.specs.declared.decoder.Decoder.{Decoder}
 use Rattle.private_cells.specs.Agents.{AgentsData}
 use Rattle.repl_asks.specs.Exchange.{AskData}
-use Rattle.server_rules.specs.Numbered.{Entry, entry, part_under, with_part}
+use Rattle.ref_table.specs.Numbered.{Entry, entry, part_under, with_part}
 use Rattle.server_rules.specs.Ground.{Ground}
 use Rattle.server_rules.specs.Readings.{message_limit}
 use Rattle.server_rules.specs.Machine.Ready.{has_waiting}
 use Rattle.server_rules.specs.Request.{Waiting, Hand}
 use Rattle.server_rules.specs.Starting.{start_waiting, start_action, action_for}
-use Rattle.server_rules.specs.Store.{Store}
+use Rattle.ref_table.specs.Store.{Store}
 use Rattle.server_rules.specs.Tenant.{ActorData, Quiet, seat_of}
 use Rattle.server_rules.specs.Plan as deeds
 use Rattle.server_rules.specs.Plan.{StepAnswer, refuses, Plan, quietly}

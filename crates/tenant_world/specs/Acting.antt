@@ -1,6 +1,6 @@
 -- What an actor's step makes of the actor, beside what the rules make of the tenant.
 use Rattle.std.specs.Prelude.{List, [], ◌∷◌, Bool, true, false, Option, None, Some}
-use Rattle.server_rules.specs.Numbered.{Entry, without}
+use Rattle.ref_table.specs.Numbered.{Entry, without}
 use Rattle.server_rules.specs.Request.{Waiting, Hand}
 use Rattle.server_rules.specs.Tenant.{ActorData, seat_of}
 use Rattle.server_rules.specs.declared.actor.Actor.{Actor}

@@ -1,7 +1,7 @@
 -- The state of an actor is lent to a step of it.
 use Rattle.std.specs.Prelude.{◌≡◌, Bool, true, false, Option, None, Some, Result, if◌then◌else◌}
 use Rattle.std.specs.Borrow.{LendsSoOk, MutBor, Fml}
-use Rattle.server_rules.specs.Numbered.{with_part}
+use Rattle.ref_table.specs.Numbered.{with_part}
 use Rattle.server_rules.specs.Tenant.{ActorData, seat_of}
 use Rattle.server_rules.specs.declared.actor.Actor.{Actor}
 use Rattle.server_rules.specs.declared.refusal.Refusal.{Refusal}

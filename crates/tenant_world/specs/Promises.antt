@@ -7,7 +7,7 @@ use Rattle.server_rules.specs.DeedResult.{deed_result}
 use Rattle.server_rules.specs.Ground.{Ground}
 use Rattle.server_rules.specs.Grounds.{IsRight}
 use Rattle.server_rules.specs.Plan.{Deed, StepAnswer, asks_for, ends}
-use Rattle.server_rules.specs.Store.{Store}
+use Rattle.ref_table.specs.Store.{Store}
 use Rattle.server_rules.specs.Tenant.{Quiet}
 use Rattle.server_rules.specs.declared.actor.Actor.{Actor}
 use Rattle.server_rules.specs.declared.refusal.Refusal.{Refusal}

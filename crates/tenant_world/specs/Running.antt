@@ -1,7 +1,7 @@
 -- The form of an actor that runs.
 use Rattle.std.specs.Prelude.{◌≡◌, Option, Some, option_and_then}
 use Rattle.repl_asks.specs.Job.{EndData, EndingData}
-use Rattle.server_rules.specs.Numbered.{part_under}
+use Rattle.ref_table.specs.Numbered.{part_under}
 use Rattle.server_rules.specs.Request.{Run}
 use Rattle.server_rules.specs.Tenant.{ActorData, Quiet, seat_of}
 use Rattle.server_rules.specs.declared.actor.Actor.{Actor}

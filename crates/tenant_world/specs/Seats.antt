@@ -1,6 +1,6 @@
 -- Whether all actors have lower seats than this.
 use Rattle.std.specs.Prelude.{ℕ, List, [], ◌∷◌, Bool, true, nat_lt, ◌&&◌}
-use Rattle.server_rules.specs.Numbered.{Entry}
+use Rattle.ref_table.specs.Numbered.{Entry}
 use Rattle.server_rules.specs.Tenant.{ActorData}
 
 abbrev pub are_below : ℕ → List (Entry ActorData) → Bool

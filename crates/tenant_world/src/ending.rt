@@ -4,7 +4,7 @@ ghost use Rattle.std.specs.Prelude.{true, option_map};
 ghost use Rattle.repl_asks.specs.Inside.Jobs.{finished_view};
 ghost use Rattle.server_rules.specs.Ground.{Ground};
 ghost use Rattle.server_rules.specs.Request as rules;
-ghost use Rattle.server_rules.specs.Store.{Store};
+ghost use Rattle.ref_table.specs.Store.{Store};
 ghost use Rattle.server_rules.specs.Tenant.{Quiet};
 ghost use Rattle.server_rules.specs.Ending.{end_of, end_accepted};
 ghost use Rattle.tenant_parts.specs.Aside.{printed_in};
@@ -25,6 +25,7 @@ ghost use Rattle.tenant_moves.specs.Endings.{hand_after};
 
 use crate::actions::{prepare_end, settle_end};
 use crate::answers::{EndAnswer, Ending};
+use crate::starting::post_news;
 use repl_asks::Finished;
 use server_rules::{Actor, Refusal};
 use std::alloc::{AllocError, Global};
@@ -203,7 +204,7 @@ fn accept(
     let agents = &mut memory.cells.agents;
     let end = prepare_end(alloc, agents, actor, hand, finished.end())?;
     let (news, after) = form_end(alloc, hand, finished, aside.printed(), session)?;
-    memory.post_news(actor, news)?;
+    post_news(memory, actor, news)?;
     settle_end(&mut memory.cells.agents, end);
     aside.left = put_after(state, after);
     Ok(())

@@ -1,7 +1,7 @@
 // The state of an actor is lent to a step of it, and changed in its place.
 ghost use Rattle.std.specs.Prelude.{◌≡◌, ◌≢◌, ◌<◌, ◌==◌, Some, Err, IfOk};
 ghost use Rattle.std.specs.Borrow.{sem};
-ghost use Rattle.server_rules.specs.Numbered.{part_under};
+ghost use Rattle.ref_table.specs.Numbered.{part_under};
 ghost use Rattle.server_rules.specs.Tenant.{seat_of};
 ghost use Rattle.tenant_parts.specs.View.{actor_view, actors_view};
 ghost use Rattle.tenant_world.specs.Acting.{left_after};

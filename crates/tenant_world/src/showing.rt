@@ -10,7 +10,7 @@ ghost use Rattle.server_rules.specs.Plan.{reply_given};
 ghost use Rattle.tenant_parts.specs.Ahead.{next_text_of, tells_value_of};
 ghost use Rattle.tenant_parts.specs.View.{run_view, actors_view};
 ghost use Rattle.server_rules.specs.Grounds.{IsRight};
-ghost use Rattle.server_rules.specs.Store.{Store};
+ghost use Rattle.ref_table.specs.Store.{Store};
 ghost use Rattle.server_rules.specs.DeedResult.{deed_result};
 ghost use Rattle.server_rules.specs.LoneTurns.{Lone, agents_last};
 ghost use Rattle.server_rules.specs.Inside.Rounds.{IsEnough};

@@ -1,13 +1,16 @@
 // An actor begins its next form, or takes up its next request; that of agents the next action.
 ghost use Rattle.std.specs.Prelude.{◌≡◌, ℕ, true, false, None, Some, option_map, IfOk, IfErr, ◌<◌, Err};
-ghost use Rattle.std.specs.Prelude.{OnErr};
+ghost use Rattle.std.specs.Prelude.{OnOk, OnErr};
 ghost use Rattle.server_rules.specs.Ground.{Ground};
 ghost use Rattle.server_rules.specs.Request as rules;
 ghost use Rattle.server_rules.specs.Starting.{start_waiting, held_or, start_outcome, next_begun};
 ghost use Rattle.server_rules.specs.Starting.{Started};
+ghost use Rattle.server_rules.specs.Moves.{Move};
 ghost use Rattle.server_rules.specs.Tenant.{Quiet, actor_state, is_held};
+ghost use Rattle.server_rules.specs.Tenant.{with_state, with_replies};
 ghost use Rattle.server_rules.specs.Deeds.{start_of};
 ghost use Rattle.tenant_parts.specs.View.{actor_view, hand_view, waiting_view};
+ghost use Rattle.tenant_moves.specs.Told.{Tells};
 ghost use Rattle.tenant_moves.specs.Starts.{hand_begun, answer_given, given_job, GoesOn};
 ghost use Rattle.server_rules.specs.Grounds.{IsRight};
 ghost use Rattle.tenant_asks.specs.Memories.{Remembers, opened_by};
@@ -22,7 +25,7 @@ use repl_asks::Job;
 use server_rules::{Actor, Refusal};
 use std::alloc::{AllocError, Global};
 use tenant_asks::{Memory, interrupt};
-use tenant_moves::{Begun, BegunRequest, NextForm, begin, begin_request, next_form};
+use tenant_moves::{Begun, BegunRequest, News, NextForm, begin, begin_request, next_form};
 use tenant_parts::{ActorState, Aside, Hand, Left, Waiting};
 
 /// The actor begins its next form, or takes up its next request. Where it is refused nothing has
@@ -123,9 +126,24 @@ fn enter_form(
 {
     let NextForm { news, begun } = next;
     let noted = begun_answer(&begun)?;
-    memory.post_news(actor, news)?;
+    post_news(memory, actor, news)?;
     let given = put_begun(alloc, state, begun);
     Ok(StartAnswers { given, noted })
+}
+
+/// Lets the replies to a request wait, and puts the state in that its session then has. It fails
+/// only for want of memory, and then changes nothing.
+pub(crate) fn post_news(memory: &mut Memory, actor: Actor, news: News) -> Result<(), AllocError>
+    ensures taken { (g : Ground) (t : ℕ) (q : Quiet) (m : Move) → Remembers g t memory.old q
+        → Tells m news → OnOk result (Remembers g t memory.new
+        (with_replies m.replies (with_state actor m.state q))) }
+    ensures stays { (g : Ground) (t : ℕ) (q : Quiet) → Remembers g t memory.old q
+        → OnErr result (Remembers g t memory.new q) }
+    ensures opened { opened_by memory.new ≡ opened_by memory.old }
+    ensures cells { memory.new.cells ≡ memory.old.cells }
+{
+    let News { batch, state } = news;
+    memory.post_with_state(actor, batch, state)
 }
 
 // What is answered. It fails only where 2^63 owners share a part of the job.
@@ -198,7 +216,7 @@ fn start_request(
         aside,
     )?;
     let answers = StartAnswers::of(answer_of(given))?;
-    memory.post_news(actor, news)?;
+    post_news(memory, actor, news)?;
     leave_request(aside, put_next_in_hand(state, hand));
     Ok(answers)
 }

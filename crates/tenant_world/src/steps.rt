@@ -3,7 +3,7 @@ ghost use Rattle.std.specs.Prelude.{◌≡◌, ◌+◌, ◌<◌, ◌≤◌, IfOk
 ghost use Rattle.repl_asks.specs.Inside.View.{ask_view};
 ghost use Rattle.repl_asks.specs.Inside.Jobs.{finished_view};
 ghost use Rattle.server_rules.specs.Ground.{Ground};
-ghost use Rattle.server_rules.specs.Store.{Store};
+ghost use Rattle.ref_table.specs.Store.{Store};
 ghost use Rattle.server_rules.specs.Tenant.{ActorData, Quiet};
 ghost use Rattle.server_rules.specs.Plan.{starts, ends, with_step_spent};
 ghost use Rattle.ref_table.specs.Standing.{counter_of};

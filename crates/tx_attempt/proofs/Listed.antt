@@ -7,7 +7,7 @@ use Rattle.std.proofs.lemmas.List.Folds.{list_any-append}
 use Rattle.value_data.specs.declared.value.RefName.{RefName}
 use Rattle.repl_asks.specs.Transactions.{RefNameData, same_name}
 use Rattle.repl_asks.specs.Inside.View.{name_view}
-use Rattle.tx_attempt.specs.Accesses.{is_among, with_name}
+use Rattle.repl_asks.specs.Accesses.{is_among, with_name}
 use Rattle.tx_attempt.specs.Inside.Marks.{each_once}
 use Rattle.tx_attempt.proofs.Names.{same_name-sym, same_name-refl, same_name-true}
 

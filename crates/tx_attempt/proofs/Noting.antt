@@ -8,7 +8,7 @@ use Rattle.repl_asks.specs.Transactions.{RefNameData, CommuteData}
 use Rattle.repl_asks.specs.Sends.{SendingData}
 use Rattle.repl_asks.specs.Inside.View.{name_view}
 use Rattle.tx_attempt.specs.declared.state.Mark.{Mark}
-use Rattle.tx_attempt.specs.Accesses.{got, put, commuted, ensured, noted}
+use Rattle.repl_asks.specs.Accesses.{got, put, commuted, ensured, noted}
 use Rattle.tx_attempt.specs.Inside.States.{States, has_value, has_commute, marked}
 use Rattle.tx_attempt.specs.Inside.Marks.{KeepsMark}
 use Rattle.tx_attempt.proofs.Listed.{listed}

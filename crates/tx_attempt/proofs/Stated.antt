@@ -19,7 +19,7 @@ use Rattle.tx_attempt.specs.Inside.Keys.{key_of}
 use Rattle.tx_attempt.specs.Inside.States.{StateData, States, states_of, state_view, unnamed}
 use Rattle.tx_attempt.specs.Inside.States.{with_state}
 use Rattle.tx_attempt.specs.Inside.Marks.{KeepsMark, NamesOnce, each_once}
-use Rattle.tx_attempt.specs.Accesses.{AttemptData, is_among}
+use Rattle.repl_asks.specs.Accesses.{AttemptData, is_among}
 use Rattle.tx_attempt.proofs.Names.{keys-tied, same_name-true}
 use Rattle.tx_attempt.proofs.Listed.{among-with, once-with, listed}
 

@@ -10,7 +10,7 @@ use Rattle.value_data.specs.Datum.{Datum}
 use Rattle.value_data.specs.declared.value.RefName.{RefName}
 use Rattle.repl_asks.specs.Transactions.{RefNameData, CommuteData, CommutedData, same_name}
 use Rattle.repl_asks.specs.Inside.View.{name_view}
-use Rattle.tx_attempt.specs.Accesses.{is_among}
+use Rattle.repl_asks.specs.Accesses.{is_among}
 use Rattle.tx_attempt.specs.Inside.States.{StateData, States, unnamed, with_state}
 use Rattle.tx_attempt.specs.Inside.States.{commuted_in}
 use Rattle.tx_attempt.specs.Inside.Marks.{each_once, NamesOnce}

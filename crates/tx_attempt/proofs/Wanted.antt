@@ -5,7 +5,7 @@ use Rattle.repl_asks.specs.Transactions.{ChangeData, CommutedData}
 use Rattle.repl_asks.specs.Inside.View.{name_view, sending_view}
 use Rattle.tx_attempt.specs.contracts.key.KeyOrd.TheImpl as order
 use Rattle.tx_attempt.specs.declared.attempt.Attempt.{Attempt}
-use Rattle.tx_attempt.specs.Accesses.{intent_of}
+use Rattle.repl_asks.specs.Accesses.{intent_of}
 use Rattle.tx_attempt.specs.Inside.States.{States, states_of, change_in, commuted_in}
 use Rattle.tx_attempt.specs.Inside.Seen.{attempt_view}
 use Rattle.tx_attempt.proofs.Listed.{all-among}

@@ -34,8 +34,8 @@ impl Attempt {
     ghost use Rattle.std.specs.Prelude.{◌≡◌, option_map, OnOk, OnErr};
     ghost use Rattle.value_data.specs.Inside.View.{view};
     ghost use Rattle.repl_asks.specs.Inside.View.{name_view, commute_view, sending_view};
-    ghost use Rattle.tx_attempt.specs.Accesses.{got, put, commuted, ensured, sent};
-    ghost use Rattle.tx_attempt.specs.Accesses.{nothing_noted, noted, attempt_value, is_commuted};
+    ghost use Rattle.repl_asks.specs.Accesses.{got, put, commuted, ensured, sent};
+    ghost use Rattle.repl_asks.specs.Accesses.{nothing_noted, noted, attempt_value, is_commuted};
     ghost use Rattle.tx_attempt.specs.Inside.Parts.{is_refused};
     ghost use Rattle.tx_attempt.specs.Inside.Seen.{attempt_view};
 

@@ -1,7 +1,7 @@
 // What an attempt wants committed.
 ghost use Rattle.std.specs.Prelude.{◌≡◌, IfOk, IfErr};
 ghost use Rattle.repl_asks.specs.Inside.View.{intent_view};
-ghost use Rattle.tx_attempt.specs.Accesses.{intent_of};
+ghost use Rattle.repl_asks.specs.Accesses.{intent_of};
 ghost use Rattle.tx_attempt.specs.Inside.Seen.{attempt_view};
 
 use crate::attempt::Attempt;

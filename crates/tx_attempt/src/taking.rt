@@ -3,7 +3,7 @@ ghost use Rattle.std.specs.Prelude.{◌≡◌, ◌≤◌, [], map, filter_map, l
 ghost use Rattle.std.specs.Prelude.{vec_capacity};
 ghost use Rattle.repl_asks.specs.Inside.View.{name_view, change_view, commuted_view};
 ghost use Rattle.repl_asks.specs.Transactions.{RefNameData};
-ghost use Rattle.tx_attempt.specs.Accesses.{is_among};
+ghost use Rattle.repl_asks.specs.Accesses.{is_among};
 ghost use Rattle.tx_attempt.specs.Inside.Marks.{NamesOnce};
 ghost use Rattle.tx_attempt.specs.Inside.States.{states_of, unnamed, change_in, commuted_in};
 

@@ -14,12 +14,12 @@ use Rattle.repl_asks.specs.Transactions.{RefNameData}
 use Rattle.repl_asks.specs.Exchange.{NamedFunctionData, core_function, store_function}
 use Rattle.repl_asks.specs.Inside.View.{named_view}
 use Rattle.repl_asks.specs.declared.answer.NamedFunction.{NamedFunction}
-use Rattle.store_calls.specs.Calling.{altered_in, altering, updating}
-use Rattle.store_calls.specs.declared.altering.Alteration.{Alteration}
-use Rattle.store_calls.specs.declared.sending.Dispatch.{Dispatch}
-use Rattle.store_calls.specs.declared.updating.Update.{Update}
-use Rattle.store_calls.specs.Inside.View.{altered_view}
-use Rattle.store_calls.specs.declared.outcome.Altered.{Altered}
+use Rattle.evaluation_rules.specs.Calling.{altered_in, altering, updating}
+use Rattle.evaluation_rules.specs.declared.altering.Alteration.{Alteration}
+use Rattle.evaluation_rules.specs.declared.sending.Dispatch.{Dispatch}
+use Rattle.evaluation_rules.specs.declared.updating.Update.{Update}
+use Rattle.evaluation_rules.specs.Inside.View.{altered_view}
+use Rattle.evaluation_rules.specs.declared.outcome.Altered.{Altered}
 use Rattle.evaluation_rules.specs.Doing.{Kept, Doing, fails}
 use Rattle.evaluation_rules.specs.Tree.{ends}
 use Rattle.evaluation_rules.specs.Places.{PlaceData, Evaluator}

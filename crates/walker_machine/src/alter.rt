@@ -13,10 +13,10 @@ ghost use Rattle.walker_state.specs.Position.{LeadsOnWithin};
 
 use crate::calls::call_named;
 use core_functions::CoreFunction;
+use evaluation_rules::{Alteration, Altered, ref_to_alter};
 use repl_asks::{Commute, NamedFunction};
 use repl_values::{RefName, Value, copy_items, too_many_calls, wrong_arity};
 use std::alloc::{AllocError, Global};
-use store_calls::{Alteration, Altered, ref_to_alter};
 use walker_state::{
     Control, Frame, State, StoreFrame, call_core, read, refuse_program, refuse_store,
 };

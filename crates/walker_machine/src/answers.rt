@@ -22,13 +22,13 @@ use crate::rows::next_argument;
 use crate::swap::call_seen;
 use crate::update::begin_update;
 use core_functions::StoreFunction;
+use evaluation_rules::{Alteration, Dispatch, Update};
 use repl_asks::{Answer, NamedFunction, Resolution};
 use repl_values::{Value, not_a_function, not_a_value};
 use special_forms::Forms;
 use std::alloc::{AllocError, Global};
 use std::boxed::Box;
 use std::sync::ArcStr;
-use store_calls::{Alteration, Dispatch, Update};
 use walker_state::{
     Callee, Control, State, SymbolUse, Wanted, begin_attempt, ensure_or_retry, go_on_in,
     note_or_retry, permit, settle, settle_send, settle_swap,

@@ -8,7 +8,7 @@ ghost use Rattle.repl_asks.specs.Exchange.{store_function};
 ghost use Rattle.repl_asks.specs.Inside.View.{named_view};
 ghost use Rattle.special_forms.specs.Inside.Seen.{forms_view};
 ghost use Rattle.special_forms.specs.Inside.Size.{forms_size};
-ghost use Rattle.store_calls.specs.Calling.{updating};
+ghost use Rattle.evaluation_rules.specs.Calling.{updating};
 ghost use Rattle.evaluation_rules.specs.Calls.{named_call, update_call};
 ghost use Rattle.evaluation_rules.specs.Evaluation.{value_at};
 ghost use Rattle.walker_state.specs.Pending.{from_state, place_of, tree};
@@ -19,12 +19,12 @@ ghost use Rattle.walker_state.specs.Position.{LeadsOnWithin};
 use crate::alter::{call_alter, call_altering};
 use crate::evaluate::evaluate_symbol;
 use crate::rows::next_argument;
+use evaluation_rules::Update;
 use repl_asks::NamedFunction;
 use repl_values::{Rule, Value, broken_rule, not_a_function};
 use special_forms::Forms;
 use std::alloc::{AllocError, Global};
 use std::boxed::Box;
-use store_calls::Update;
 use walker_state::{
     Callee, Control, Frame, State, StoreFrame, SymbolUse, call_send, call_swap, commute, hold,
     try_swap,

@@ -11,7 +11,7 @@ use Rattle.repl_asks.specs.Exchange.{read}
 use Rattle.repl_asks.specs.Inside.View.{name_view}
 use Rattle.repl_asks.specs.InteractionTree.{asks}
 use Rattle.value_data.specs.declared.value.RefName.{RefName}
-use Rattle.tx_attempt.specs.Accesses.{AccessData, put, noted, attempt_value, is_commuted}
+use Rattle.repl_asks.specs.Accesses.{AccessData, put, noted, attempt_value, is_commuted}
 use Rattle.tx_attempt.specs.Inside.Seen.{attempt_view}
 use Rattle.tx_attempt.specs.declared.attempt.Attempt.{Attempt}
 use Rattle.evaluation_rules.specs.Doing.{Doing, noting, pure_part}

@@ -9,11 +9,11 @@ use Rattle.repl_asks.specs.Sends.{NamedFunctionData, SendingData}
 use Rattle.repl_asks.specs.Exchange.{AskData, permission_in}
 use Rattle.repl_asks.specs.InteractionTree.{asks}
 use Rattle.value_data.specs.Inside.View.{views}
-use Rattle.store_calls.specs.Arguments.{agent_in}
-use Rattle.store_calls.specs.Calling.{dispatching}
-use Rattle.store_calls.specs.Inside.View.{addressed_view}
-use Rattle.store_calls.specs.declared.outcome.Addressed.{Addressed}
-use Rattle.store_calls.specs.declared.sending.Dispatch.{Dispatch}
+use Rattle.evaluation_rules.specs.Arguments.{agent_in}
+use Rattle.evaluation_rules.specs.Calling.{dispatching}
+use Rattle.evaluation_rules.specs.Inside.View.{addressed_view}
+use Rattle.evaluation_rules.specs.declared.outcome.Addressed.{Addressed}
+use Rattle.evaluation_rules.specs.declared.sending.Dispatch.{Dispatch}
 use Rattle.evaluation_rules.specs.Tree.{ends}
 use Rattle.evaluation_rules.specs.Agents.{permitted_send, send_ask, send_call}
 use Rattle.walker_state.specs.Pending.{from_state, kept_of, next_of}

@@ -14,7 +14,7 @@ use Rattle.repl_asks.specs.Exchange.{AskData, AnswerData, begin, commit, committ
 use Rattle.repl_asks.specs.InteractionTree.{InteractionTree, asks}
 use Rattle.special_forms.specs.Inside.Seen.{forms_view}
 use Rattle.special_forms.specs.declared.forms.Forms.{Forms}
-use Rattle.tx_attempt.specs.Accesses.{AttemptData, intent_of, nothing_noted}
+use Rattle.repl_asks.specs.Accesses.{AttemptData, intent_of, nothing_noted}
 use Rattle.tx_attempt.specs.Inside.Seen.{attempt_view}
 use Rattle.tx_attempt.specs.declared.attempt.Attempt.{Attempt}
 use Rattle.evaluation_rules.specs.Doing.{Kept, Doing, left, failed, retried, asking, printing}

@@ -12,9 +12,9 @@ use Rattle.repl_asks.specs.Exchange.{value_in}
 use Rattle.repl_asks.specs.Inside.View.{named_view}
 use Rattle.repl_asks.specs.InteractionTree.{asks}
 use Rattle.value_data.specs.Inside.View.{views}
-use Rattle.store_calls.specs.Arguments.{atom_in}
-use Rattle.store_calls.specs.Inside.View.{swapped_view}
-use Rattle.store_calls.specs.declared.outcome.Swapped.{Swapped}
+use Rattle.evaluation_rules.specs.Arguments.{atom_in}
+use Rattle.evaluation_rules.specs.Inside.View.{swapped_view}
+use Rattle.evaluation_rules.specs.declared.outcome.Swapped.{Swapped}
 use Rattle.evaluation_rules.specs.Doing.{Doing, asking, Part, ◌>>=◌}
 use Rattle.evaluation_rules.specs.Tree.{ends}
 use Rattle.evaluation_rules.specs.Places.{Evaluator}

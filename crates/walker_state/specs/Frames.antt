@@ -12,8 +12,8 @@ use Rattle.repl_asks.specs.declared.answer.Resolution.{Resolution}
 use Rattle.special_forms.specs.Inside.Bindings.{bindings_in}
 use Rattle.special_forms.specs.Truth.{is_truthy}
 use Rattle.special_forms.specs.Inside.Seen.{forms_view}
-use Rattle.store_calls.specs.declared.altering.Alteration.{Alteration}
-use Rattle.store_calls.specs.declared.updating.Update.{Update}
+use Rattle.evaluation_rules.specs.declared.altering.Alteration.{Alteration}
+use Rattle.evaluation_rules.specs.declared.updating.Update.{Update}
 use Rattle.evaluation_rules.specs.Doing.{Kept, Doing, gave, left, Part, ◌>>=◌, pure_part, fails}
 use Rattle.evaluation_rules.specs.Places.{PlaceData, with_local}
 use Rattle.evaluation_rules.specs.Rows.{row, last_of}

@@ -10,7 +10,7 @@ use Rattle.repl_asks.specs.Inside.View.{ask_view, name_view, sending_view}
 use Rattle.repl_asks.specs.declared.answer.Resolution.{Resolution}
 use Rattle.repl_asks.specs.InteractionTree.{InteractionTree, asks}
 use Rattle.special_forms.specs.Inside.Seen.{forms_view, function_view}
-use Rattle.tx_attempt.specs.Accesses.{nothing_noted}
+use Rattle.repl_asks.specs.Accesses.{nothing_noted}
 use Rattle.evaluation_rules.specs.Doing.{Kept, Doing, Part, ◌>>=◌, pure_part}
 use Rattle.evaluation_rules.specs.Tree.{with_attempt, ends, written_tree}
 use Rattle.evaluation_rules.specs.Places.{PlaceData}

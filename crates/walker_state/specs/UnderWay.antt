@@ -4,7 +4,7 @@ use Rattle.std.specs.Global.{Global}
 use Rattle.std.specs.Arc.{arc_str_bytes}
 use Rattle.value_data.specs.Datum.{nil}
 use Rattle.special_forms.specs.Inside.Seen.{forms_view}
-use Rattle.tx_attempt.specs.Accesses.{AttemptData, nothing_noted}
+use Rattle.repl_asks.specs.Accesses.{AttemptData, nothing_noted}
 use Rattle.tx_attempt.specs.Inside.Seen.{attempt_view}
 use Rattle.evaluation_rules.specs.Doing.{Kept, Doing, left}
 use Rattle.evaluation_rules.specs.Tree.{with_attempt}

@@ -1,12 +1,11 @@
 // What an evaluation has still to do, from the inside out.
-use evaluation_rules::Occasion;
+use evaluation_rules::{Alteration, Occasion, Update};
 use repl_asks::{Ask, Commute, NamedFunction, Sending};
 use repl_values::{Fault, RefName, Value};
 use special_forms::{Forms, Function, Locals, Logic};
 use std::boxed::Box;
 use std::collections::VecDeque;
 use std::sync::{Arc, ArcStr};
-use store_calls::{Alteration, Update};
 use tx_attempt::Attempt;
 
 /// What is called.

@@ -2,7 +2,7 @@
 ghost use Rattle.std.specs.Prelude.{◌≡◌, ◌<◌, ◌≤◌, IfOk, option_map};
 ghost use Rattle.value_data.specs.Inside.View.{view};
 ghost use Rattle.repl_asks.specs.Inside.View.{commute_view, name_view, sending_view};
-ghost use Rattle.tx_attempt.specs.Accesses.{got, commuted, ensured, sent, attempt_value};
+ghost use Rattle.repl_asks.specs.Accesses.{got, commuted, ensured, sent, attempt_value};
 ghost use Rattle.evaluation_rules.specs.Doing.{Doing, noting};
 ghost use Rattle.evaluation_rules.specs.Refs.{ref_value, ensured_value};
 ghost use Rattle.walker_state.specs.Pending as machine;
@@ -75,7 +75,7 @@ pub(crate) fn ensure(state: &mut State, name: RefName) -> Result<Control, AllocE
 }
 
 // The value that the attempt knows, if one runs.
-#[tactic(auto, unfolding(tx_attempt::specs::Accesses::attempt_value))]
+#[tactic(auto, unfolding(repl_asks::specs::Accesses::attempt_value))]
 fn known(state: &State, name: RefName) -> Result<Option<Value>, AllocError>
     ensures { IfOk result (λ known. option_map view known
         ≡ attempt_value (name_view name) (so_far state.now.transaction)) }

@@ -14,12 +14,11 @@ ghost use Rattle.walker_state.specs.declared.frames.Wanted.{Wanted};
 
 use crate::frames::{Control, State, Wanted};
 use crate::refs::note_sent;
-use evaluation_rules::Occasion;
+use evaluation_rules::{Addressed, Dispatch, Occasion, agent_to_send};
 use repl_asks::{Ask, NamedFunction, Permission, Sending, Task};
 use repl_values::{Value, wrong_arity};
 use std::alloc::{AllocError, Global};
 use std::sync::Arc;
-use store_calls::{Addressed, Dispatch, agent_to_send};
 
 /// A call of `send` or `send-off` with this function: it is asked whether the function may be sent
 /// to the agent, with the other arguments. It fails only for want of memory.

@@ -10,7 +10,7 @@ ghost use Rattle.evaluation_rules.specs.Calls.{commute_noted};
 ghost use Rattle.evaluation_rules.specs.Refs.{ensured_read, held_value, permitted_value};
 ghost use Rattle.evaluation_rules.specs.Refs.{put_value, read_value};
 ghost use Rattle.evaluation_rules.specs.Refs.{call_data_at, store_call};
-ghost use Rattle.store_calls.specs.Inside.View.{call_view};
+ghost use Rattle.evaluation_rules.specs.Inside.View.{call_view};
 ghost use Rattle.walker_state.specs.UnderWay.{is_running};
 ghost use Rattle.walker_state.specs.Pending.{from_state, tree};
 ghost use Rattle.walker_state.specs.Position.{IsLater, LeadsOnWithin, control_position};
@@ -22,11 +22,10 @@ use crate::attempts::retry;
 use crate::frames::{Control, State, Wanted};
 use crate::refs::{ensure, note_commuted, note_ensured, note_read, read};
 use core_functions::StoreFunction;
-use evaluation_rules::Occasion;
+use evaluation_rules::{Call, Occasion, call_in_action, call_in_shared_text, may_hold};
 use repl_asks::{Commute, Permission, Reading};
 use repl_values::{RefName, Rule, Value, broken_rule, copy};
 use std::alloc::{AllocError, Global};
-use store_calls::{Call, call_in_action, call_in_shared_text, may_hold};
 use tx_attempt::SetError;
 
 /// A call of a function that asks the store.
@@ -63,7 +62,7 @@ fn take_apart(
 {
     let in_transaction = state.transaction.is_some();
     match state.setting.occasion {
-        Occasion::Form => store_calls::call(alloc, function, in_transaction, values),
+        Occasion::Form => evaluation_rules::call(alloc, function, in_transaction, values),
         Occasion::SharedText => call_in_shared_text(alloc, function, values),
         Occasion::Action => call_in_action(alloc, function, in_transaction, values),
     }

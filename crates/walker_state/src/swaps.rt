@@ -14,12 +14,12 @@ ghost use Rattle.walker_state.specs.declared.frames.State.{State};
 
 use crate::frames::{Control, State, Swap, Wanted};
 use core_functions::StoreFunction;
+use evaluation_rules::{Swapped, atom_to_swap};
 use repl_asks::{Ask, NamedFunction};
 use repl_values::{Value, copy, too_many_calls, wrong_arity};
 use special_forms::is_truthy;
 use std::alloc::{AllocError, Global};
 use std::boxed::Box;
-use store_calls::{Swapped, atom_to_swap};
 
 /// A call of `swap!` with this function: the value of its atom is asked for, which goes to the
 /// function with the other arguments. It fails only for want of memory.

@@ -6,7 +6,7 @@ use Rattle.repl_asks.specs.Exchange as exchange
 use Rattle.repl_asks.specs.Job as jobs
 use Rattle.repl_asks.specs.Job.{EndingData}
 use Rattle.repl_replies.specs.Replies as replies
-use Rattle.server_rules.specs.Numbered.{part_under}
+use Rattle.ref_table.specs.Numbered.{part_under}
 use Rattle.server_rules.specs.Plan.{ends, tenant_opened}
 use Rattle.server_rules.specs.Machine.World.{opens, closes, does, step}
 use Rattle.server_rules.specs.Machine.Turns.{Turn, given}

@@ -5,7 +5,7 @@ use Rattle.value_data.specs.Datum.{Datum, tenant}
 use Rattle.repl_values.specs.Print.{print}
 use Rattle.repl_replies.specs.Replies as replies
 use Rattle.repl_replies.specs.Replies.{BodyData, bytes_of}
-use Rattle.server_rules.specs.Numbered.{part_under}
+use Rattle.ref_table.specs.Numbered.{part_under}
 use Rattle.server_rules.specs.Plan.{hears, drains}
 use Rattle.server_rules.specs.Machine.World.{TenantData, World, does, opened_world}
 use Rattle.server_rules.specs.Machine.Turns.{Turn, given, goes, world_after, serve}

@@ -1,6 +1,6 @@
 -- What is proved of every run of the server.
 use Rattle.std.specs.Prelude.{◌≡◌, ◌≢◌, ℕ, List, Option, Some, Result, Ok, Err}
-use Rattle.server_rules.specs.Versions.{Ref}
+use Rattle.ref_history.specs.Versioned.{Ref}
 use Rattle.server_rules.specs.Ground.{Ground}
 use Rattle.server_rules.specs.Plan.{StepAnswer}
 use Rattle.server_rules.specs.Machine.World.{World, Step, Stepped, accepted, refused, step}

@@ -4,7 +4,7 @@ use Rattle.value_data.specs.Datum.{OwnerData, shared, tenant}
 use Rattle.repl_asks.specs.Transactions.{RefNameData}
 use Rattle.repl_asks.specs.Exchange as exchange
 use Rattle.repl_asks.specs.Exchange.{AskData}
-use Rattle.server_rules.specs.Commit.{touched_refs}
+use Rattle.ref_table.specs.Commit.{touched_refs}
 use Rattle.server_rules.specs.Ground.{Ground}
 use Rattle.server_rules.specs.Plan.{Deed, asks_for}
 use Rattle.server_rules.specs.Machine.World.{World, Step, opens, does, closes, Stepped, accepted}

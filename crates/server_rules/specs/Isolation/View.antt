@@ -2,9 +2,9 @@
 -- which the commits of others move.
 use Rattle.std.specs.Prelude.{ℕ, ◌+◌, List, [], ◌∷◌, nat_le, map, Option, option_map, if◌then◌else◌}
 use Rattle.value_data.specs.Datum.{Datum}
-use Rattle.server_rules.specs.Numbered.{Entry, entry, part_under}
-use Rattle.server_rules.specs.Versions.{RefOf, Version, Ref}
-use Rattle.server_rules.specs.Store.{Own}
+use Rattle.ref_table.specs.Numbered.{Entry, entry, part_under}
+use Rattle.ref_history.specs.Versioned.{RefOf, Version, Ref}
+use Rattle.ref_table.specs.Store.{Own}
 use Rattle.server_rules.specs.Tenant.{Quiet}
 use Rattle.server_rules.specs.Machine.World.{TenantData, World}
 

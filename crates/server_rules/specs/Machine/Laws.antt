@@ -1,7 +1,7 @@
 -- What is proved of who has something to begin.
 use Rattle.std.specs.Prelude.{◌≡◌, ℕ, List, true, Some, ⊤}
-use Rattle.server_rules.specs.Numbered.{part_under}
-use Rattle.server_rules.specs.Versions.{Ref}
+use Rattle.ref_table.specs.Numbered.{part_under}
+use Rattle.ref_history.specs.Versioned.{Ref}
 use Rattle.server_rules.specs.Ground.{Ground}
 use Rattle.server_rules.specs.Tenant.{Quiet, is_held}
 use Rattle.server_rules.specs.Plan.{starts}

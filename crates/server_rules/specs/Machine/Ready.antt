@@ -1,7 +1,7 @@
 -- Which actors have something to do, and which to begin.
 use Rattle.std.specs.Prelude.{List, [], ◌∷◌, Bool, true, false, not, ◌||◌, is_some}
 use Rattle.std.specs.Prelude.{Option, None, Some, option_map, find}
-use Rattle.server_rules.specs.Numbered.{Entry}
+use Rattle.ref_table.specs.Numbered.{Entry}
 use Rattle.server_rules.specs.Request.{Waiting, Hand}
 use Rattle.server_rules.specs.Tenant.{ActorData, actor_at, Quiet}
 use Rattle.server_rules.specs.declared.actor.Actor.{Actor}

@@ -1,7 +1,7 @@
 -- Turns: lists of them are every interleaving of the tenants' steps, and what they serve each.
 use Rattle.std.specs.Prelude.{ℕ, ◌==◌, List, [], ◌∷◌, ◌++◌, Option, option_map}
 use Rattle.std.specs.Prelude.{if◌then◌else◌}
-use Rattle.server_rules.specs.Numbered.{part_under}
+use Rattle.ref_table.specs.Numbered.{part_under}
 use Rattle.server_rules.specs.Ground.{Ground}
 use Rattle.server_rules.specs.Tenant.{Quiet}
 use Rattle.server_rules.specs.Plan.{bytes_in}

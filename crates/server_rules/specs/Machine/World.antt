@@ -1,11 +1,11 @@
 -- The whole server, and its step.
 use Rattle.std.specs.Prelude.{ℕ, ◌+◌, List, [], ◌∷◌, Bool, false, ◌||◌, nat_le, Option, None}
 use Rattle.std.specs.Prelude.{Some, if◌then◌else◌}
-use Rattle.server_rules.specs.Numbered.{Entry, entry, part_under, with_part}
-use Rattle.server_rules.specs.Versions.{Ref}
-use Rattle.server_rules.specs.Store.{Around, Own, Store}
-use Rattle.server_rules.specs.Performed.{Performed}
-use Rattle.server_rules.specs.Calls.{performed}
+use Rattle.ref_table.specs.Numbered.{Entry, entry, part_under, with_part}
+use Rattle.ref_history.specs.Versioned.{Ref}
+use Rattle.ref_table.specs.Store.{Around, Own, Store}
+use Rattle.ref_table.specs.Performed.{Performed}
+use Rattle.ref_table.specs.Calls.{performed}
 use Rattle.server_rules.specs.Ground.{Ground}
 use Rattle.server_rules.specs.Tenant.{Quiet, opened_quiet}
 use Rattle.server_rules.specs.Plan.{Deed, StepAnswer, tenant_opened, tenant_gone, Outcome, refuses}

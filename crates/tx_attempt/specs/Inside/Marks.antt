@@ -3,7 +3,7 @@ use Rattle.std.specs.Prelude.{◌≡◌, List, [], ◌∷◌, Bool, true, ◌&&�
 use Rattle.value_data.specs.declared.value.RefName.{RefName}
 use Rattle.repl_asks.specs.Transactions.{RefNameData}
 use Rattle.repl_asks.specs.Inside.View.{name_view}
-use Rattle.tx_attempt.specs.Accesses.{is_among}
+use Rattle.repl_asks.specs.Accesses.{is_among}
 use Rattle.tx_attempt.specs.Inside.States.{StateData, States}
 
 -- a ref has the mark where it is in the list

@@ -1,7 +1,7 @@
 -- What an attempt has, seen as data.
 use Rattle.std.specs.Prelude.{map}
 use Rattle.repl_asks.specs.Inside.View.{name_view, sending_view}
-use Rattle.tx_attempt.specs.Accesses.{AttemptData}
+use Rattle.repl_asks.specs.Accesses.{AttemptData}
 use Rattle.tx_attempt.specs.Inside.States.{states_of}
 use Rattle.tx_attempt.specs.contracts.key.KeyOrd.TheImpl as order
 use Rattle.tx_attempt.specs.declared.attempt.Attempt.{Attempt}

@@ -1,11 +1,10 @@
-use Rattle.std.proofs.Common.{◌≡◌, [], ◌∷◌, ◌∙◌, ◌++◌, ap, refl}
+use Rattle.std.proofs.Common.{[], ◌∷◌, ◌∙◌, ◌++◌, ap}
 use Rattle.server_rules.specs.Machine.World.{does}
 use Rattle.server_rules.specs.Plan.{asks_for}
 use Rattle.repl_asks.specs.Inside.View.{ask_view}
 use Rattle.tenant_asks.specs.Answers.{ask_answer_view}
 use Rattle.journal_book.specs.Standing.{entry}
 use Rattle.journal_book.specs.View.{entries}
-use Rattle.journal_book.specs.declared.entry.Entry.{Entry}
 use Rattle.journal_book.proofs.Written.{keeps-written, is-written, keeps-unwritten, is-refused, keeps-same}
 use Rattle.journal_book.proofs.writing.answer_ask.Goals as goal
 

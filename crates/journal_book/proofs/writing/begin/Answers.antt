@@ -1,10 +1,9 @@
-use Rattle.std.proofs.Common.{◌≡◌, [], ◌∷◌, ◌∙◌, ◌++◌, ap, refl}
+use Rattle.std.proofs.Common.{[], ◌∷◌, ◌∙◌, ◌++◌, ap}
 use Rattle.server_rules.specs.Machine.World.{does}
 use Rattle.server_rules.specs.Plan.{starts}
 use Rattle.tenant_world.specs.Answers.{start_answer_view}
 use Rattle.journal_book.specs.Standing.{entry}
 use Rattle.journal_book.specs.View.{entries}
-use Rattle.journal_book.specs.declared.entry.Entry.{Entry}
 use Rattle.journal_book.proofs.Written.{keeps-written, is-written, keeps-unwritten, is-refused, keeps-same}
 use Rattle.journal_book.proofs.writing.begin.Goals as goal
 

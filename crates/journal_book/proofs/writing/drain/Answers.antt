@@ -1,8 +1,7 @@
-use Rattle.std.proofs.Common.{◌≡◌, [], ◌∷◌, ◌∙◌, ◌++◌, ap, refl}
+use Rattle.std.proofs.Common.{[], ◌∷◌, ◌∙◌, ◌++◌, ap}
 use Rattle.server_rules.specs.Machine.World.{does}
 use Rattle.server_rules.specs.Plan.{drains, reply_given}
 use Rattle.journal_book.specs.Standing.{entry}
-use Rattle.journal_book.specs.View.{entries}
 use Rattle.journal_book.specs.declared.entry.Entry.{Entry}
 use Rattle.journal_book.proofs.Written.{keeps-written, is-written, keeps-unwritten, is-refused, keeps-same}
 use Rattle.journal_book.proofs.writing.drain.Goals as goal

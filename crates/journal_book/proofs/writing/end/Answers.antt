@@ -1,4 +1,4 @@
-use Rattle.std.proofs.Common.{◌≡◌, [], ◌∷◌, ◌∙◌, ◌++◌, ap, sym, subst}
+use Rattle.std.proofs.Common.{[], ◌∷◌, ◌∙◌, ◌++◌, ap, sym, subst}
 use Rattle.repl_asks.specs.Inside.Jobs.{finished_view}
 use Rattle.repl_walker.specs.Ends.{ending_view}
 use Rattle.repl_core.specs.Kept.{EndsAsKept}
@@ -7,7 +7,6 @@ use Rattle.journal_book.proofs.FormsTold.{ends-as-kept}
 use Rattle.server_rules.specs.Machine.World.{does}
 use Rattle.server_rules.specs.Plan.{ends}
 use Rattle.tenant_world.specs.Answers.{end_answer_view}
-use Rattle.journal_book.specs.Standing.{IsRefused}
 use Rattle.journal_book.specs.View.{entries}
 use Rattle.journal_book.proofs.Written.{keeps-written, is-written, keeps-unwritten, is-refused}
 use Rattle.journal_book.proofs.Written.{keeps-same, says-ended, same-refused}

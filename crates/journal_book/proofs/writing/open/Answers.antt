@@ -1,9 +1,7 @@
-use Rattle.std.proofs.Common.{◌≡◌, [], ◌∷◌, ◌∙◌, ◌++◌, ap, refl}
+use Rattle.std.proofs.Common.{[], ◌∷◌, ◌∙◌, ◌++◌, ap}
 use Rattle.server_rules.specs.Machine.World.{opens}
 use Rattle.server_rules.specs.Plan.{tenant_opened}
-use Rattle.journal_book.specs.Standing.{entry}
 use Rattle.journal_book.specs.View.{entries}
-use Rattle.journal_book.specs.declared.entry.Entry.{Entry}
 use Rattle.journal_book.proofs.Written.{keeps-written, is-written, keeps-unwritten, is-refused, keeps-same}
 use Rattle.journal_book.proofs.writing.open.Goals as goal
 

@@ -1,5 +1,5 @@
 use Rattle.std.proofs.Common.{◌∙◌}
-use Rattle.history.proofs.Telling.{passed}
+use Rattle.knowing_book.proofs.Telling.{passed}
 use Rattle.knowing_book.specs.Keys.{entry_key}
 use Rattle.knowing_book.proofs.book.follow.Goals as goal
 

@@ -1,4 +1,4 @@
-use Rattle.history.proofs.Telling.{noted, gone}
+use Rattle.knowing_book.proofs.Telling.{noted, gone}
 use Rattle.knowing_book.specs.Keys.{entry_key}
 use Rattle.knowing_book.proofs.book.follow_key.Goals as goal
 

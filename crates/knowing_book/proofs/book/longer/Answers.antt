@@ -1,5 +1,5 @@
 use Rattle.std.proofs.Common.{◌≡◌, ◌∙◌, ◌++◌, ◌∷◌, [], flat_map, refl, sym, ap, append_assoc}
-use Rattle.history.proofs.Seeing.{ends-with}
+use Rattle.knowing_book.proofs.Seeing.{ends-with}
 use Rattle.journal_book.specs.View.{entries}
 use Rattle.knowing_book.proofs.Entries.{adds-entries}
 use Rattle.knowing_book.proofs.book.longer.Goals as goal

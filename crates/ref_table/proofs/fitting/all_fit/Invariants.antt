@@ -1,6 +1,6 @@
 use Rattle.std.proofs.Common.{◌≡◌, map, drop}
 use Rattle.repl_asks.specs.Inside.View.{change_view}
-use Rattle.server_rules.specs.Commit.{all_fit}
+use Rattle.ref_table.specs.Commit.{all_fit}
 use Rattle.ref_table.proofs.fitting.all_fit.Given as goal
 
 abbrev pub invariant-loop-change : goal.invariant-loop-change

@@ -1,6 +1,6 @@
 use Rattle.std.proofs.Common.{◌≡◌, map, drop}
 use Rattle.repl_asks.specs.Inside.View.{commuted_view}
-use Rattle.server_rules.specs.Commit.{all_take}
+use Rattle.ref_table.specs.Commit.{all_take}
 use Rattle.ref_table.proofs.fitting.all_take.Given as goal
 
 abbrev pub invariant-loop-one : goal.invariant-loop-one

@@ -2,7 +2,7 @@ use Rattle.std.proofs.Common.{◌≡◌, true, map, drop}
 use Rattle.std.specs.List.{list_all}
 use Rattle.value_data.specs.Inside.View.{view}
 use Rattle.repl_asks.specs.Inside.View.{commute_view}
-use Rattle.server_rules.specs.Commit.{takes_its_arguments, folded_value}
+use Rattle.ref_table.specs.Commit.{takes_its_arguments, folded_value}
 use Rattle.ref_table.proofs.folding.fold_commutes.Given as goal
 
 -- where the rest comes to from here, all comes to from the start

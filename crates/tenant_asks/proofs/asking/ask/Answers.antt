@@ -2,7 +2,7 @@ use Rattle.std.proofs.Common.{sym, ap, subst, ◌∙◌, option_map, Err, IfOk, 
 use Rattle.repl_asks.specs.Inside.View.{ask_view}
 use Rattle.server_rules.specs.Plan.{Plan, Outcome, StepAnswer, refuses}
 use Rattle.server_rules.specs.Starting.{interrupted_in}
-use Rattle.server_rules.specs.Store.{Store}
+use Rattle.ref_table.specs.Store.{Store}
 use Rattle.ref_table.specs.Refs.{refs_after}
 use Rattle.tenant_parts.specs.View.{actor_view, hand_view, run_view}
 use Rattle.server_rules.specs.DeedResult.{carried_out}

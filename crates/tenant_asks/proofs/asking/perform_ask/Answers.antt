@@ -1,7 +1,7 @@
 use Rattle.std.proofs.Common.{sym, ap, subst, refl, ◌∙◌, IfOk}
 use Rattle.repl_asks.specs.Inside.View.{ask_view}
 use Rattle.server_rules.specs.Asking.{sender_of}
-use Rattle.server_rules.specs.Calls.{performed}
+use Rattle.ref_table.specs.Calls.{performed}
 use Rattle.server_rules.specs.Cells.{SenderData, cells_after, with_sends_if}
 use Rattle.server_rules.specs.Tenant.{seat_of}
 use Rattle.ref_table.proofs.Telling.{on_err}

@@ -3,7 +3,7 @@ use Rattle.std.specs.BTreeSet.{keys}
 use Rattle.repl_sessions.specs.Inside.Leaving.{remaining_named}
 use Rattle.repl_sessions.specs.Named.{NamedSessions}
 use Rattle.repl_sessions.specs.Sessions.{SessionsData}
-use Rattle.server_rules.specs.Numbered.{Entry}
+use Rattle.ref_table.specs.Numbered.{Entry}
 use Rattle.server_rules.specs.Tenant.{ActorData}
 use Rattle.tenant_parts.specs.View.{actors_view}
 use Rattle.tenant_moves.specs.Scene.{all_vacated}

@@ -2,8 +2,8 @@ use Rattle.std.proofs.Common.{ap, sym, subst, ◌∙◌}
 use Rattle.repl_asks.specs.Inside.View.{ask_view}
 use Rattle.repl_asks.specs.declared.ask.Ask.{Ask}
 use Rattle.server_rules.specs.Asking.{call_of}
-use Rattle.server_rules.specs.Calls.{performed}
-use Rattle.server_rules.specs.Performed.{as_was}
+use Rattle.ref_table.specs.Calls.{performed}
+use Rattle.ref_table.specs.Performed.{as_was}
 use Rattle.server_rules.specs.Tenant.{seat_of}
 use Rattle.tenant_parts.specs.Serving.{PerformsCall}
 use Rattle.tenant_parts.specs.Thrice.{told_answer}

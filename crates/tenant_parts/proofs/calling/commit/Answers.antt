@@ -2,7 +2,7 @@ use Rattle.std.proofs.Common.{Some, sym, ap, subst, ◌∙◌, option_map}
 use Rattle.repl_values.specs.Inside.FaultView.{failure_of}
 use Rattle.repl_asks.specs.Exchange.{AnswerData, verdict, committed, faulted}
 use Rattle.repl_asks.specs.Inside.View.{intent_view}
-use Rattle.server_rules.specs.Calls.{performed, commits}
+use Rattle.ref_table.specs.Calls.{performed, commits}
 use Rattle.server_rules.specs.Tenant.{seat_of}
 use Rattle.ref_history.specs.RingHistories.{RingStands}
 use Rattle.ref_table.specs.Refs.{store_of}

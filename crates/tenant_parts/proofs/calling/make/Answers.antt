@@ -2,7 +2,7 @@ use Rattle.std.proofs.Common.{Some, sym, subst, refl}
 use Rattle.value_data.specs.Datum.{Datum}
 use Rattle.value_data.specs.Inside.View.{view}
 use Rattle.repl_asks.specs.Exchange.{AnswerData}
-use Rattle.server_rules.specs.Calls.{performed, makes}
+use Rattle.ref_table.specs.Calls.{performed, makes}
 use Rattle.ref_history.specs.RingHistories.{RingStands}
 use Rattle.ref_table.specs.Refs.{store_of}
 use Rattle.ref_table.specs.Told.{Performs}

@@ -1,7 +1,7 @@
 use Rattle.std.proofs.Common.{Some, refl, sym, ap, ◌∙◌}
 use Rattle.value_data.specs.Inside.View.{view}
 use Rattle.repl_asks.specs.Inside.View.{name_view}
-use Rattle.server_rules.specs.Calls.{performed, reads}
+use Rattle.ref_table.specs.Calls.{performed, reads}
 use Rattle.server_rules.specs.Tenant.{seat_of}
 use Rattle.ref_table.specs.Told.{reading_told}
 use Rattle.ref_table.proofs.Telling.{on_err}

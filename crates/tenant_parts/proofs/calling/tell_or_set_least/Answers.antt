@@ -2,7 +2,7 @@ use Rattle.std.proofs.Common.{Option, sym, subst, ◌∙◌}
 use Rattle.repl_asks.specs.Exchange.{AnswerData}
 use Rattle.repl_asks.specs.Inside.View.{name_view}
 use Rattle.tenant_parts.specs.Thrice.{thrice_view}
-use Rattle.server_rules.specs.Calls.{performed, sets_least}
+use Rattle.ref_table.specs.Calls.{performed, sets_least}
 use Rattle.ref_history.specs.RingHistories.{RingStands}
 use Rattle.ref_table.specs.Refs.{store_of}
 use Rattle.ref_table.specs.Told.{Performs}

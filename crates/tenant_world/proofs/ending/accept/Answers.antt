@@ -25,7 +25,7 @@ returns-clause-acted c = λ g q s' h run e is r hand running.
     let new = actor_view c.put_after.new.state in
     let old = c.args.memory.now in
     let prepared = record old { cells = record old.cells { agents = c.prepare_end.new.agents } } in
-    let posted = c.post_news.new.self in
+    let posted = c.post_news.new.memory in
     let memory = record posted { cells = record posted.cells { agents = c.settle_end.new.agents } } in
     let end = finished_view c.args.finished.now in
     let k = hand_view c.in-Some.hand in

@@ -27,7 +27,7 @@ returns-clause-acted c = λ g t q right tries r hand.
     let a = c.args.actor in
     let actor = actor_view c.args.state.now in
     let new = actor_view c.put_next_in_hand.new.state in
-    let memory = c.post_news.new.self in
+    let memory = c.post_news.new.memory in
     let w = waiting_view c.in-Some.waiting.now in
     let behind = record actor { waiting = younger actor.waiting } in
     let s = state_view c.in_ok-session.session in

@@ -2,7 +2,7 @@ use Rattle.std.proofs.Common.{arith, ap, refl, rules, Ok, Err}
 use Rattle.value_data.specs.Inside.View.{view, views}
 use Rattle.repl_values.specs.Inside.FaultView.{failure_of}
 use Rattle.repl_asks.specs.Inside.View.{name_view, named_view}
-use Rattle.store_calls.specs.Inside.View.{altered_view}
+use Rattle.evaluation_rules.specs.Inside.View.{altered_view}
 use Rattle.evaluation_rules.specs.Evaluation.{value_at}
 use Rattle.walker_state.proofs.Taking.{no_items, first-removed}
 use Rattle.walker_machine.proofs.Evaluating.{if_ok-turned}

@@ -1,7 +1,7 @@
 use Rattle.std.proofs.Common.{refl, rules, ap, List, [], ◌∷◌, ◌++◌, ◌∙◌}
 use Rattle.value_data.specs.Datum.{Datum}
 use Rattle.value_data.specs.declared.value.Value.{Value}
-use Rattle.store_calls.specs.Calling.{updating}
+use Rattle.evaluation_rules.specs.Calling.{updating}
 use Rattle.repl_asks.specs.Exchange.{store_function}
 use Rattle.evaluation_rules.specs.Doing.{Kept, Doing}
 use Rattle.evaluation_rules.specs.Applying.{named_callee}

@@ -1,7 +1,7 @@
 use Rattle.std.proofs.Common.{sym, ap, ◌∙◌}
 use Rattle.value_data.specs.Inside.View.{view}
 use Rattle.repl_asks.specs.Inside.View.{intent_view}
-use Rattle.tx_attempt.specs.Accesses.{intent_of}
+use Rattle.repl_asks.specs.Accesses.{intent_of}
 use Rattle.tx_attempt.specs.Inside.Seen.{attempt_view}
 use Rattle.tx_attempt.specs.declared.attempt.Attempt.{Attempt}
 use Rattle.walker_state.specs.declared.frames.Transaction.{Transaction}

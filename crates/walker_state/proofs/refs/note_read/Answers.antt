@@ -2,7 +2,7 @@ use Rattle.std.proofs.Common.{sym, ap, ◌∙◌}
 use Rattle.value_data.specs.Datum.{Datum}
 use Rattle.value_data.specs.Inside.View.{view}
 use Rattle.repl_asks.specs.Inside.View.{name_view}
-use Rattle.tx_attempt.specs.Accesses.{noted, got}
+use Rattle.repl_asks.specs.Accesses.{noted, got}
 use Rattle.tx_attempt.specs.Inside.Seen.{attempt_view}
 use Rattle.walker_state.specs.declared.frames.Transaction.{Transaction}
 use Rattle.walker_state.proofs.Noting.{noted-outside, noted-inside}

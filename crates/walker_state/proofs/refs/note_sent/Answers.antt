@@ -1,6 +1,6 @@
 use Rattle.std.proofs.Common.{sym, ap, ◌∙◌}
 use Rattle.repl_asks.specs.Inside.View.{sending_view}
-use Rattle.tx_attempt.specs.Accesses.{noted, sent}
+use Rattle.repl_asks.specs.Accesses.{noted, sent}
 use Rattle.tx_attempt.specs.Inside.Seen.{attempt_view}
 use Rattle.walker_state.specs.declared.frames.Transaction.{Transaction}
 use Rattle.walker_state.proofs.Noting.{noted-outside, noted-inside}

@@ -3,7 +3,7 @@ use Rattle.value_data.specs.Inside.View.{view, views}
 use Rattle.repl_values.specs.Inside.FaultView.{failure_of}
 use Rattle.repl_asks.specs.Inside.View.{ask_view, named_view, sending_view, task_view}
 use Rattle.repl_asks.specs.declared.sends.Task.{Task}
-use Rattle.store_calls.specs.Inside.View.{addressed_view}
+use Rattle.evaluation_rules.specs.Inside.View.{addressed_view}
 use Rattle.walker_state.proofs.Taking.{no_items, first-removed}
 use Rattle.walker_state.proofs.Sent.{send_call-empty, send_call-refused, send_call-asks}
 use Rattle.walker_state.proofs.Sent.{addressed-told}

@@ -2,7 +2,7 @@ use Rattle.std.proofs.Common.{rules, ◌≡◌, true, sym, ap, ◌∙◌}
 use Rattle.value_data.specs.Datum.{Datum}
 use Rattle.value_data.specs.Inside.View.{view}
 use Rattle.repl_asks.specs.Inside.View.{name_view}
-use Rattle.tx_attempt.specs.Accesses.{noted, put, is_commuted}
+use Rattle.repl_asks.specs.Accesses.{noted, put, is_commuted}
 use Rattle.tx_attempt.specs.Inside.Parts.{is_refused}
 use Rattle.tx_attempt.specs.Inside.Seen.{attempt_view}
 use Rattle.walker_state.specs.declared.frames.Transaction.{Transaction}

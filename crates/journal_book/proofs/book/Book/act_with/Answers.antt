@@ -1,4 +1,4 @@
-use Rattle.std.proofs.Common.{◌+◌, ◌∙◌, length, sym, ap, subst, refl}
+use Rattle.std.proofs.Common.{rules, ◌+◌, ◌∙◌, length, sym, ap, subst, refl}
 use Rattle.repl_core.specs.Steps.{step_view, step_answer_view}
 use Rattle.journal_book.specs.Forms.{EndsAsTold}
 use Rattle.journal_book.specs.View.{BookData, entries}
@@ -26,35 +26,41 @@ invariant_of-self-2 g c =
       kept.4,
     )
 
-pub returns-in_err-answer-clause-refused : goal.returns-in_err-answer-clause-refused
-returns-in_err-answer-clause-refused g c =
-    let why = c.in_err-answer.field-0.0.why in
-    let P : BookData → Type 0 = λ b. IsRefused b.config (entries b.journal) (step_view c.args.step) why in
-    err-so _ c.from_residual.result c.in_err-answer.field-0.0 c.from_residual.ensures.1
-    (subst P c.self.view_is
-    (c.in_err-answer.ensures.declined c.self.inside.config c.self.invariant.0))
+pub returns-in_err-answer-clause-declined : goal.returns-in_err-answer-clause-declined
+returns-in_err-answer-clause-declined g c =
+    let it = c.in_err-answer.field-0.0 in
+    let P : BookData → Type 0 = λ b. IsRefused b.config (entries b.journal) (step_view c.args.step) it.why in
+    err-so _ c.from_residual.result it c.from_residual.ensures.1 (
+      search rules,
+      record {
+        refused = subst P c.self.view_is
+            (c.in_err-answer.ensures.declined c.self.inside.config c.self.invariant.0);
+        book = search rules;
+        seat = search rules;
+      },
+    )
 
-pub returns-clause-answer : goal.returns-clause-answer
-returns-clause-answer g c =
-    let P : BookData → Type 0 = λ b. IsAnswered b.config (entries b.journal) (step_view c.args.step)
-    (step_answer_view c.in_ok-answer.answer) in
-    subst P c.self.view_is
-    (c.in_ok-answer.ensures.written c.self.inside.config c.self.invariant.0).1
-
-pub returns-clause-journal : goal.returns-clause-journal
-returns-clause-journal g c =
+pub returns-clause-made : goal.returns-clause-made
+returns-clause-made g c =
+    let answer = step_answer_view c.in_ok-answer.answer in
     let after : BookData = record {
       config = c.self.inside.config;
       journal = c.write.new.journal.items;
       tenants = c.self.inside.tenants;
     } in
-    let P : BookData → Type 0 = λ b. Notes b after (entry (step_view c.args.step) (step_answer_view c.in_ok-answer.answer)) in
-    subst P c.self.view_is (record {
-      config = refl;
-      journal = (c.in_ok-answer.ensures.written c.self.inside.config c.self.invariant.0).0;
-    })
+    let written = c.in_ok-answer.ensures.written c.self.inside.config c.self.invariant.0 in
+    let P : BookData → Type 0 = λ b. Notes b after (entry (step_view c.args.step) answer) in
+    let Q : BookData → Type 0 = λ b. IsAnswered b.config (entries b.journal) (step_view c.args.step) answer in (
+      search rules,
+      record {
+        journal = subst P c.self.view_is (record { config = refl; journal = written.0 });
+        answer = subst Q c.self.view_is written.1;
+        counted = search rules;
+        tenants = search rules;
+      },
+    )
 
 pub write-requires-clause-told : goal.write-requires-clause-told
 write-requires-clause-told g c = λ is.
     subst (λ b. EndsAsTold (entries b.journal) (step_view c.args.step)) (sym c.self.view_is)
-    (c.requires.told is)
+    (c.requires.as_told is)

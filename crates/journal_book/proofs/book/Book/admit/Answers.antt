@@ -1,8 +1,8 @@
-use Rattle.std.proofs.Common.{◌≡◌, ◌+◌, ◌*◌, ◌≤◌, ◌∙◌, length, sym, ap, subst, refl, arith, inr}
+use Rattle.std.proofs.Common.{rules, ◌≡◌, ◌+◌, ◌*◌, ◌∙◌, length, sym, ap, subst, refl, arith, inr}
 use Rattle.server_rules.specs.Plan.{tenant_opened}
 use Rattle.server_rules.specs.Machine.World.{opens}
 use Rattle.journal_book.specs.View.{BookData, entries}
-use Rattle.journal_book.specs.Standing.{IsAnswered, IsRefused, Notes, entry}
+use Rattle.journal_book.specs.Standing.{IsAnswered, Notes, RefusesTenant, entry}
 use Rattle.journal_book.proofs.Keeping.{err-so}
 use Rattle.journal_book.proofs.book.Book.admit.Goals as goal
 
@@ -32,30 +32,29 @@ invariant_of-self-2 g c =
       omega arith,
     )
 
-pub returns-in_err-open-clause-refused : goal.returns-in_err-open-clause-refused
-returns-in_err-open-clause-refused g c =
+pub returns-in_err-open-clause-declined : goal.returns-in_err-open-clause-declined
+returns-in_err-open-clause-declined g c =
     let why = c.in_err-open.field-0.0 in
-    let P : BookData → Type 0 = λ b. IsRefused b.config (entries b.journal) (opens b.tenants) why in
-    err-so _ c.from_residual.result why c.from_residual.ensures.1
-    (inr (subst P c.self.view_is
-    (c.in_err-open.ensures.declined c.self.inside.config c.self.invariant.0)))
+    err-so _ c.from_residual.result why c.from_residual.ensures.1 (
+      search rules,
+      subst (λ b. RefusesTenant b why) c.self.view_is
+          (inr (c.in_err-open.ensures.declined c.self.inside.config c.self.invariant.0)),
+    )
 
-pub returns-clause-answer : goal.returns-clause-answer
-returns-clause-answer g c =
-    let P : BookData → Type 0 = λ b. IsAnswered b.config (entries b.journal) (opens b.tenants)
-    tenant_opened in
-    subst P c.self.view_is
-    (c.in_ok-open.ensures.written c.self.inside.config c.self.invariant.0).1
-
-pub returns-clause-journal : goal.returns-clause-journal
-returns-clause-journal g c =
+pub returns-clause-admitted : goal.returns-clause-admitted
+returns-clause-admitted g c =
+    let written = c.in_ok-open.ensures.written c.self.inside.config c.self.invariant.0 in
     let after : BookData = record {
       config = c.self.inside.config;
       journal = c.open.new.journal.items;
       tenants = c.self.inside.tenants + 1;
     } in
     let P : BookData → Type 0 = λ b. Notes b after (entry (opens c.self.inside.tenants) tenant_opened) in
-    subst P c.self.view_is (record {
-      config = refl;
-      journal = (c.in_ok-open.ensures.written c.self.inside.config c.self.invariant.0).0;
-    })
+    let Q : BookData → Type 0 = λ b. IsAnswered b.config (entries b.journal) (opens b.tenants)
+    tenant_opened in
+    record {
+      number = search rules;
+      journal = subst P c.self.view_is (record { config = refl; journal = written.0 });
+      answer = subst Q c.self.view_is written.1;
+      tenants = search rules;
+    }

@@ -1,5 +1,5 @@
 use Rattle.std.proofs.Common.{◌≡◌, ◌∙◌, IfSome, refl, sym, ap, subst, length}
-use Rattle.history.specs.Lasts.{AreLasts}
+use Rattle.knowing_book.specs.Lasts.{AreLasts}
 use Rattle.server_rules.specs.Machine.World.{opens}
 use Rattle.server_rules.specs.Plan.{tenant_opened}
 use Rattle.journal_book.specs.Standing.{entry}
@@ -13,7 +13,7 @@ pub invariant_of-self-2 : goal.invariant_of-self-2
 invariant_of-self-2 g c =
     let b = c.self.inside in
     let e = entry (opens c.in_ok-places.places.tenant) tenant_opened in
-    let now = c.in_ok-places.ensures.journal.journal in
+    let now = c.in_ok-places.ensures.admitted.journal.journal in
     let long : length (entries b.book.journal) ≡ c.len-place.result =
     length-entries b.book.journal ∙ ap length (sym c.journal.ensures) ∙ sym c.len-place.ensures in (
       subst (λ js. IfSome c.add.new.known (λ es. entries es ≡ entries js)) c.journal-2.ensures

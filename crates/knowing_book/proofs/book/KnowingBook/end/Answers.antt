@@ -1,6 +1,6 @@
 use Rattle.std.proofs.Common.{◌≡◌, ◌∙◌, Some, sym, ap, subst}
 use Rattle.repl_walker.specs.Ends.{ending_view}
-use Rattle.history.specs.Lasts.{last_at}
+use Rattle.knowing_book.specs.Lasts.{last_at}
 use Rattle.journal_book.specs.Forms.{form_told, form_of}
 use Rattle.journal_book.specs.View.{entries}
 use Rattle.knowing_book.specs.Keys.{actor_key}
@@ -8,8 +8,8 @@ use Rattle.knowing_book.specs.Knowledge.{Knows}
 use Rattle.knowing_book.proofs.Knowing.{kept-last, end-told}
 use Rattle.knowing_book.proofs.book.KnowingBook.end.Goals as goal
 
-pub make-requires-clause-told : goal.make-requires-clause-told
-make-requires-clause-told g c = λ is.
+pub make-requires-clause-as_told : goal.make-requires-clause-as_told
+make-requires-clause-as_told g c = λ is.
     let b = c.self.inside in
     let journal = entries b.book.journal in
     let t = c.tenant-tenant.result in

@@ -1,5 +1,5 @@
 use Rattle.std.proofs.Common.{◌≡◌, ◌∙◌, IfSome, sym, ap, subst, length}
-use Rattle.history.specs.Lasts.{AreLasts}
+use Rattle.knowing_book.specs.Lasts.{AreLasts}
 use Rattle.repl_core.specs.Steps.{step_view, step_answer_view}
 use Rattle.journal_book.specs.Standing.{entry}
 use Rattle.journal_book.specs.View.{entries}
@@ -12,9 +12,9 @@ pub invariant_of-self-2 : goal.invariant_of-self-2
 invariant_of-self-2 g c =
     let b = c.self.inside in
     let e = entry (step_view c.args.step) (step_answer_view c.in_ok-receipt.receipt.answer) in
-    let now = c.in_ok-receipt.ensures.journal.journal in
+    let now = c.in_ok-receipt.ensures.made.1.journal.journal in
     let long : length (entries b.book.journal) ≡ c.in_ok-receipt.receipt.place =
-    length-entries b.book.journal ∙ sym c.in_ok-receipt.ensures.place in (
+    length-entries b.book.journal ∙ sym c.in_ok-receipt.ensures.made.0 in (
       subst (λ js. IfSome c.add.new.known (λ es. entries es ≡ entries js)) c.journal.ensures
           (c.add.ensures e (known-before b.known (entries b.book.journal) (entries c.journal.result.now.items) e
           c.self.invariant.0 (ap entries c.journal.ensures ∙ now))),
@@ -26,4 +26,4 @@ invariant_of-self-2 g c =
 pub add-requires : goal.add-requires
 add-requires g c =
     length-known c.self.inside.known c.self.inside.book.journal c.in_ok-receipt.receipt.place
-    c.self.invariant.0 c.in_ok-receipt.ensures.place
+    c.self.invariant.0 c.in_ok-receipt.ensures.made.0

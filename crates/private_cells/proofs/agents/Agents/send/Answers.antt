@@ -2,7 +2,7 @@ use Rattle.std.proofs.Common.{◌∷◌, [], ◌+◌, List, map, refl, sym, ap, 
 use Rattle.std.proofs.Common.{if◌then◌else◌, length-drop}
 use Rattle.std.proofs.lemmas.List.{length-map}
 use Rattle.std.specs.BinaryHeap.{heap_items}
-use Rattle.private_cells.specs.Places.{changed_at}
+use Rattle.repl_values.specs.Places.{changed_at}
 use Rattle.private_cells.specs.Agents.{AgentData, SentAction, with_waiting}
 use Rattle.private_cells.specs.Inside.Seen.{cells_view, cell_view, sent_view, action_view}
 use Rattle.private_cells.specs.Inside.Sender.{same_sender}

@@ -1,6 +1,6 @@
 use Rattle.std.proofs.Common.{◌≡◌, sym, ap, ◌∙◌, subst, ◌&&◌, not, IsTrue}
 use Rattle.std.proofs.Common.{◌∷◌, take, length, refl, if◌then◌else◌}
-use Rattle.server_rules.specs.Versions.{with_version}
+use Rattle.ref_history.specs.Versioned.{with_version}
 use Rattle.ref_history.specs.Kept.{KeptStands, version_of}
 use Rattle.ref_history.specs.declared.kept_ref.KeptVersion.{KeptVersion}
 use Rattle.ref_history.specs.declared.kept_ref.KeptRef.{KeptRef}

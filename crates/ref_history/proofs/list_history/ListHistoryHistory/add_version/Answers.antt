@@ -1,5 +1,5 @@
 use Rattle.value_data.specs.Inside.View.{view}
-use Rattle.server_rules.specs.Versions.{with_version}
+use Rattle.ref_history.specs.Versioned.{with_version}
 use Rattle.ref_history.specs.Effects.{version}
 use Rattle.ref_history.proofs.Placed.{changed-place}
 use Rattle.ref_history.proofs.list_history.ListHistoryHistory.add_version.Goals as goal

@@ -1,6 +1,6 @@
 use Rattle.std.proofs.Common.{refl, sym, ◌∙◌, subst, IsSome}
 use Rattle.value_data.specs.Inside.View.{view}
-use Rattle.server_rules.specs.Versions.{with_failed_read}
+use Rattle.ref_history.specs.Versioned.{with_failed_read}
 use Rattle.ref_history.proofs.Placed.{changed-place, stands-kept, not-absent, put-back, on_some}
 use Rattle.ref_history.proofs.list_history.ListHistoryHistory.read_at.Goals as goal
 

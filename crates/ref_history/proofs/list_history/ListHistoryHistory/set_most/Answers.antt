@@ -1,5 +1,5 @@
 use Rattle.std.proofs.Common.{ap}
-use Rattle.server_rules.specs.Versions.{with_most}
+use Rattle.ref_history.specs.Versioned.{with_most}
 use Rattle.ref_history.proofs.Placed.{changed-place}
 use Rattle.ref_history.specs.declared.ref_id.Bounds.{Bounds}
 use Rattle.ref_history.proofs.list_history.ListHistoryHistory.set_most.Goals as goal

@@ -1,5 +1,5 @@
 use Rattle.std.proofs.Common.{◌≡◌, arith, ap, refl, sym, ◌+◌, ℕ, Some, true, nat_lt}
-use Rattle.server_rules.specs.Versions.{with_failed_read}
+use Rattle.ref_history.specs.Versioned.{with_failed_read}
 use Rattle.ref_history.specs.Rung.{room_for}
 use Rattle.ref_history.specs.declared.ring_ref.RingRef.{RingRef}
 use Rattle.ref_history.proofs.Ringed.{changed-in, found-there, reserved-set, in-kept, set-here}

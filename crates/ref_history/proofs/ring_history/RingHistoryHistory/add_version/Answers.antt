@@ -7,7 +7,7 @@ use Rattle.version_rings.specs.Rings.{versions}
 use Rattle.version_rings.specs.Versions as ring
 use Rattle.version_rings.specs.Versions.{pushed}
 use Rattle.version_rings.specs.declared.node.RingId.{RingId}
-use Rattle.server_rules.specs.Versions.{with_version}
+use Rattle.ref_history.specs.Versioned.{with_version}
 use Rattle.ref_history.specs.Effects.{version}
 use Rattle.ref_history.specs.Rung.{RingKept, room_for, ring_number}
 use Rattle.ref_history.specs.Rung.{versions_of}

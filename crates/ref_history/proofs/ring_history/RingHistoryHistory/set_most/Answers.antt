@@ -1,5 +1,5 @@
 use Rattle.std.proofs.Common.{arith, ap, refl, Some}
-use Rattle.server_rules.specs.Versions.{with_most}
+use Rattle.ref_history.specs.Versioned.{with_most}
 use Rattle.ref_history.specs.Rung.{room_for}
 use Rattle.ref_history.specs.declared.ref_id.Bounds.{Bounds}
 use Rattle.ref_history.specs.declared.ring_ref.RingRef.{RingRef}

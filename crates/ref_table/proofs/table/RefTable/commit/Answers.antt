@@ -4,9 +4,9 @@ use Rattle.repl_values.specs.Inside.FaultView.{failure_of}
 use Rattle.repl_asks.specs.Transactions.{RefNameData}
 use Rattle.repl_asks.specs.Exchange.{verdict, conflict}
 use Rattle.repl_asks.specs.Inside.View.{intent_view}
-use Rattle.server_rules.specs.Numbered.{part_under}
-use Rattle.server_rules.specs.Store.{newest_value}
-use Rattle.server_rules.specs.Commit.{all_folded}
+use Rattle.ref_table.specs.Numbered.{part_under}
+use Rattle.ref_table.specs.Store.{newest_value}
+use Rattle.ref_table.specs.Commit.{all_folded}
 use Rattle.ref_table.specs.Refs.{store_of}
 use Rattle.ref_table.specs.Directory.{all_named}
 use Rattle.ref_table.specs.Placing.{places_of}

@@ -6,8 +6,8 @@ use Rattle.value_data.specs.Datum.{Datum}
 use Rattle.repl_values.specs.Inside.FaultView.{Gives}
 use Rattle.repl_asks.specs.Transactions.{RefNameData}
 use Rattle.repl_asks.specs.Inside.View.{change_view, commuted_view}
-use Rattle.server_rules.specs.Store.{newest_value}
-use Rattle.server_rules.specs.Commit.{all_take, all_folded}
+use Rattle.ref_table.specs.Store.{newest_value}
+use Rattle.ref_table.specs.Commit.{all_take, all_folded}
 use Rattle.ref_table.specs.Refs.{store_of}
 use Rattle.ref_table.proofs.Distinct.{drop-item}
 use Rattle.ref_table.proofs.Commuting.{given-err, before, folded-failed, folded-next, take-first}

@@ -2,9 +2,9 @@ use Rattle.std.proofs.Common.{◌≡◌, ◌++◌, ℕ, List, true, map, drop}
 use Rattle.std.specs.Prelude.{Ok}
 use Rattle.repl_values.specs.Failure.{◌>>=◌}
 use Rattle.repl_asks.specs.Inside.View.{name_view, change_view, commuted_view}
-use Rattle.server_rules.specs.Numbered.{Entry}
-use Rattle.server_rules.specs.Store.{newest_value}
-use Rattle.server_rules.specs.Commit.{all_take, all_folded}
+use Rattle.ref_table.specs.Numbered.{Entry}
+use Rattle.ref_table.specs.Store.{newest_value}
+use Rattle.ref_table.specs.Commit.{all_take, all_folded}
 use Rattle.ref_table.specs.Refs.{Refs, store_of}
 use Rattle.ref_table.specs.Standing.{TableStands}
 use Rattle.ref_table.proofs.table.RefTable.fold_all.Given as goal

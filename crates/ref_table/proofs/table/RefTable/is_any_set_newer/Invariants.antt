@@ -1,7 +1,7 @@
 use Rattle.std.proofs.Common.{◌≡◌, ℕ, List, map, drop}
 use Rattle.repl_asks.specs.Inside.View.{name_view}
-use Rattle.server_rules.specs.Numbered.{Entry}
-use Rattle.server_rules.specs.Commit.{any_newer}
+use Rattle.ref_table.specs.Numbered.{Entry}
+use Rattle.ref_table.specs.Commit.{any_newer}
 use Rattle.ref_table.specs.Refs.{Refs, store_of}
 use Rattle.ref_table.specs.Standing.{TableStands}
 use Rattle.ref_table.proofs.table.RefTable.is_any_set_newer.Given as goal

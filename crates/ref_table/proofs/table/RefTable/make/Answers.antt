@@ -3,7 +3,7 @@ use Rattle.value_data.specs.Datum.{tenant, ref}
 use Rattle.value_data.specs.Inside.View.{view, owner_view}
 use Rattle.value_data.specs.declared.value.RefName.{RefName}
 use Rattle.repl_asks.specs.Exchange.{value}
-use Rattle.server_rules.specs.Calls.{performed_make}
+use Rattle.ref_table.specs.Calls.{performed_make}
 use Rattle.ref_history.specs.Effects.{first_ref}
 use Rattle.ref_table.specs.Refs.{with_ref, store_of}
 use Rattle.ref_table.specs.Directory.{refs_of}

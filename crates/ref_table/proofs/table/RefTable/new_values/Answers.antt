@@ -5,8 +5,8 @@ use Rattle.value_data.specs.Datum.{Datum}
 use Rattle.repl_values.specs.Inside.FaultView.{Fails}
 use Rattle.repl_asks.specs.Transactions.{RefNameData}
 use Rattle.repl_asks.specs.Inside.View.{name_view, change_view, commuted_view, intent_view}
-use Rattle.server_rules.specs.Store.{newest_value}
-use Rattle.server_rules.specs.Commit.{all_folded}
+use Rattle.ref_table.specs.Store.{newest_value}
+use Rattle.ref_table.specs.Commit.{all_folded}
 use Rattle.ref_table.specs.Refs.{store_of}
 use Rattle.ref_table.specs.Directory.{ids_named}
 use Rattle.ref_table.specs.Placing.{placed_view, all_placed}

@@ -1,6 +1,6 @@
 use Rattle.std.proofs.Common.{◌≡◌, ◌+◌, List, [], ◌∷◌, All, map, refl, sym, ap, ◌∙◌, subst, arith}
 use Rattle.std.proofs.lemmas.Grind.{common_steps}
-use Rattle.server_rules.specs.Commit.{with_raised_counter, with_all}
+use Rattle.ref_table.specs.Commit.{with_raised_counter, with_all}
 use Rattle.ref_table.specs.Placing.{placed_view, places_of, AddsAll}
 use Rattle.ref_table.specs.declared.placing.Placed.{Placed}
 use Rattle.ref_table.specs.Refs.{store_of, refs_after}

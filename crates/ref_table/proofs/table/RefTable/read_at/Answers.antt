@@ -1,6 +1,6 @@
 use Rattle.std.proofs.Common.{Some, sym, ap, ◌∙◌}
 use Rattle.value_data.specs.Inside.View.{view}
-use Rattle.server_rules.specs.Versions.{readable}
+use Rattle.ref_history.specs.Versioned.{readable}
 use Rattle.ref_table.specs.Refs.{store_of}
 use Rattle.ref_table.proofs.Owners.{some-same}
 use Rattle.ref_table.proofs.Tables.{same-stands, seen-there, seen-stands}

@@ -1,6 +1,6 @@
 use Rattle.std.proofs.Common.{sym, ◌∙◌}
 use Rattle.repl_asks.specs.Inside.View.{name_view}
-use Rattle.server_rules.specs.Versions.{with_most}
+use Rattle.ref_history.specs.Versioned.{with_most}
 use Rattle.ref_table.proofs.Telling.{bound-performs}
 use Rattle.ref_table.proofs.table.RefTable.set_most.Goals as goal
 

@@ -1,5 +1,5 @@
 use Rattle.std.proofs.Common.{◌∙◌, ap, [], ◌∷◌, ◌++◌}
-use Rattle.server_rules.specs.Numbered.{entry}
+use Rattle.ref_table.specs.Numbered.{entry}
 use Rattle.server_rules.specs.Tenant.{ActorData, seat_of}
 use Rattle.tenant_parts.specs.Busy.{is_busy}
 use Rattle.tenant_parts.specs.Listed.{are_listed}

@@ -2,7 +2,7 @@ use Rattle.std.proofs.Common.{◌≡◌, ◌∙◌, ◌||◌, ap, sym, Bool, tru
 use Rattle.std.specs.BTreeMap.{BTreeMap}
 use Rattle.std.specs.Map.{remove_entry}
 use Rattle.server_rules.specs.Machine.Ready.{has_waiting}
-use Rattle.server_rules.specs.Numbered.{with_part}
+use Rattle.ref_table.specs.Numbered.{with_part}
 use Rattle.server_rules.specs.Tenant.{ActorData, seat_of}
 use Rattle.server_rules.specs.declared.actor.Actor.{Actor}
 use Rattle.tenant_parts.specs.Listed.{are_listed}

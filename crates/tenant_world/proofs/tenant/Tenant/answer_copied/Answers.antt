@@ -3,7 +3,7 @@ use Rattle.std.proofs.Common.{◌<◌, ◌∙◌, refl, Some, Err, sym, ap, subs
 use Rattle.repl_asks.specs.Inside.View.{ask_view}
 use Rattle.ref_table.specs.Refs.{refs_after}
 use Rattle.server_rules.specs.Asking.{asked_of}
-use Rattle.server_rules.specs.Numbered.{part_under}
+use Rattle.ref_table.specs.Numbered.{part_under}
 use Rattle.server_rules.specs.Plan as deeds
 use Rattle.server_rules.specs.Plan.{Plan}
 use Rattle.server_rules.specs.Tenant.{ActorData, seat_of}

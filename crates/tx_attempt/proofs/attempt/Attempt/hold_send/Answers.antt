@@ -3,7 +3,7 @@ use Rattle.std.proofs.lemmas.List.{map_push}
 use Rattle.repl_asks.specs.Sends.{SendingData}
 use Rattle.repl_asks.specs.Inside.View.{sending_view}
 use Rattle.tx_attempt.specs.contracts.key.KeyOrd.TheImpl as order
-use Rattle.tx_attempt.specs.Accesses.{noted}
+use Rattle.repl_asks.specs.Accesses.{noted}
 use Rattle.tx_attempt.specs.Inside.States.{states_of}
 use Rattle.tx_attempt.specs.Inside.Seen.{attempt_view}
 use Rattle.tx_attempt.proofs.Stated.{data_of}

@@ -3,7 +3,7 @@ use Rattle.repl_asks.specs.Inside.View.{name_view, change_view, commuted_view}
 use Rattle.value_data.specs.declared.value.RefName.{RefName}
 use Rattle.std.proofs.Common.{List}
 use Rattle.tx_attempt.specs.contracts.key.KeyOrd.TheImpl as order
-use Rattle.tx_attempt.specs.Accesses.{is_among}
+use Rattle.repl_asks.specs.Accesses.{is_among}
 use Rattle.tx_attempt.specs.Inside.States.{states_of, unnamed, change_in, commuted_in}
 use Rattle.tx_attempt.proofs.Wanted.{wanted}
 use Rattle.tx_attempt.proofs.attempt.Attempt.into_intent.Goals as goal

@@ -5,7 +5,7 @@ use Rattle.tx_attempt.specs.contracts.key.KeyOrd.TheImpl as order
 use Rattle.tx_attempt.specs.declared.state.Mark.{Mark}
 use Rattle.tx_attempt.specs.Inside.States.{states_of, marked, has_value}
 use Rattle.tx_attempt.specs.Inside.Seen.{attempt_view}
-use Rattle.tx_attempt.specs.Accesses.{is_commuted}
+use Rattle.repl_asks.specs.Accesses.{is_commuted}
 use Rattle.tx_attempt.proofs.Stated.{same-data, Restated, marks-stay, marks-more, once-more}
 use Rattle.tx_attempt.proofs.Noting.{on-err, put-noted}
 use Rattle.tx_attempt.proofs.attempt.Attempt.set.Goals as goal

@@ -1,4 +1,4 @@
-use Rattle.tx_attempt.specs.Accesses.{attempt_value}
+use Rattle.repl_asks.specs.Accesses.{attempt_value}
 use Rattle.tx_attempt.specs.Inside.Seen.{attempt_view}
 use Rattle.tx_attempt.proofs.attempt.Attempt.value_of.Goals as goal
 

@@ -6,7 +6,7 @@ use Rattle.value_data.specs.declared.value.RefName.{RefName}
 use Rattle.repl_asks.specs.Transactions.{CommutedData}
 use Rattle.repl_asks.specs.Inside.View.{name_view, commuted_view}
 use Rattle.tx_attempt.specs.contracts.key.KeyOrd.TheImpl as order
-use Rattle.tx_attempt.specs.Accesses.{is_among}
+use Rattle.repl_asks.specs.Accesses.{is_among}
 use Rattle.tx_attempt.specs.Inside.States.{StateData, states_of, unnamed, commuted_in}
 use Rattle.tx_attempt.proofs.TakenOut.{names-more, names-apart, left-more, still-there}
 use Rattle.tx_attempt.proofs.TakenOut.{taken-more, taken-same, group_with}

@@ -3,7 +3,7 @@ use Rattle.std.specs.Prelude.{vec_capacity}
 use Rattle.repl_asks.specs.Inside.View.{name_view, change_view}
 use Rattle.repl_asks.specs.Transactions.{RefNameData}
 use Rattle.tx_attempt.specs.contracts.key.KeyOrd.TheImpl as order
-use Rattle.tx_attempt.specs.Accesses.{is_among}
+use Rattle.repl_asks.specs.Accesses.{is_among}
 use Rattle.tx_attempt.specs.Inside.States.{states_of, unnamed, change_in}
 use Rattle.tx_attempt.proofs.states.RefStates.take_values.Given as goal
 

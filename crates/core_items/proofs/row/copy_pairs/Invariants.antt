@@ -1,7 +1,0 @@
-use Rattle.std.proofs.Common.{◌≡◌, take, map}
-use Rattle.value_data.specs.Inside.View.{view}
-use Rattle.core_items.specs.Inside.View.{pair_vectors}
-use Rattle.core_items.proofs.row.copy_pairs.Given as goal
-
-abbrev pub invariant-loop-key : goal.invariant-loop-key
-invariant-loop-key l = map view l.copies.items ≡ pair_vectors (take l.key-index l.pairs)

@@ -1,4 +1,0 @@
-pub mod Beginnings
-pub mod Adding
-pub mod Telling
-pub mod Seeing
