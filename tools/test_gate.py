@@ -183,10 +183,10 @@ class Library:
 class Jobs(unittest.TestCase):
     def jobs(self, **lines):
         """The jobs that libraries of so many lines get, whose proofs run at one time."""
-        together, given = threading.Barrier(len(lines)), {}
+        begun, together, given = threading.Barrier(len(lines)), threading.Barrier(len(lines)), {}
 
         def ci(crate, flags, tests):
-            together.wait(timeout=10)
+            together.wait(timeout=60)
             given[crate.name] = flags
 
         proved = quick_rt.with_idle_processors(ci)
@@ -194,10 +194,12 @@ class Jobs(unittest.TestCase):
             crates = [Library(room, name, count) for name, count in lines.items()]
             asked = [(it, ["--jobs", "1"], False) for it in crates]
             runs = [threading.Thread(target=proved, args=words) for words in asked]
-            for run in runs:
-                run.start()
-            for run in runs:
-                run.join()
+            # each waits until all have begun, however slow the machine is
+            with unittest.mock.patch("quick_rt.time.sleep", lambda _: begun.wait(timeout=60)):
+                for run in runs:
+                    run.start()
+                for run in runs:
+                    run.join()
         return {name: int(flags[1]) for name, flags in given.items()}
 
     def setUp(self):

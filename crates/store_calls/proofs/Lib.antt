@@ -1,3 +1,0 @@
-pub mod Awaited
-pub mod Options
-pub mod Taken
