@@ -19,8 +19,8 @@ IMPORT = re.compile(r"^(?:pub )?use Rattle\.(\w+)\.specs\.([\w.]+?)(?:\.\{|\s|$)
 NO_RULE = re.compile(r"\s*(--|use |pub use |pub mod |mod |$)")
 NAMED = re.compile(r"^ghost use Rattle\.(\w+)\.specs\.([\w.]+)\.\{([^}]*)\};$", re.MULTILINE)
 SERVER = {
-    "repl_sessions", "name_spaces", "server_rules", "trace_comparison", "nrepl_pipe", "repl_core",
-    "machine_runs",
+    "ref_history", "ref_table", "repl_sessions", "name_spaces", "server_rules", "trace_comparison",
+    "nrepl_pipe", "repl_core", "machine_runs",
 }  # fmt: skip
 
 

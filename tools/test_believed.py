@@ -11,8 +11,10 @@ ROW = re.compile(r"^\| `(\w+)` \| ([\d,]+) \| ([\d,]+) \|", re.MULTILINE)
 # What of specs/ holds nothing to believe for `pipe`, and crates of which it needs some files alone.
 APART = {"Lib", "Inside", "Isolation", "Machine", "Examples"}
 PARTLY = {
+    "ref_history": {"Versioned"},
+    "ref_table": {"Calls", "Commit", "Numbered", "Performed", "Store"},
     "repl_core": {"Configured", "Grounds"},
-    "private_cells": {"Actions", "Agents", "Atoms", "Places"},
+    "private_cells": {"Actions", "Agents", "Atoms"},
     "machine_runs": {"Streams"},
 }
 
