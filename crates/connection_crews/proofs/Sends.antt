@@ -62,7 +62,7 @@ use Rattle.journal_book.specs.contracts.entry.AcceptedStep as accepted_step
 use Rattle.journal_book.specs.contracts.entry.AnsweredAsk as answered_ask
 use Rattle.journal_book.specs.contracts.entry.HeardPiece as heard_piece
 use Rattle.journal_book.specs.contracts.entry.ResolvedSymbol as resolved_symbol
-use Rattle.journal_book.specs.contracts.entry.Entry as entry
+use Rattle.journal_book.specs.contracts.entry.JournalEntry as entry
 use Rattle.paged_list.specs.contracts.pages.Pages as pages
 use Rattle.paged_list.specs.contracts.pages.Pages.TheInside as pages_inside
 use Rattle.bencode_wire.specs.contracts.decoder.Decoder as decoder
@@ -71,7 +71,7 @@ use Rattle.tenant_parts.specs.contracts.request.ProgramText as program_text
 use Rattle.tenant_parts.specs.contracts.request.Waiting as waiting
 use Rattle.tenant_parts.specs.contracts.request.Manner as manner
 use Rattle.tenant_parts.specs.contracts.request.Run as run
-use Rattle.tenant_parts.specs.contracts.request.Hand as hand
+use Rattle.tenant_parts.specs.contracts.request.WorkInHand as hand
 use Rattle.tenant_parts.specs.contracts.actor.ActorState as actor_state
 use Rattle.tenant_parts.specs.contracts.actors.Actors as actors
 use Rattle.repl_sessions.specs.contracts.sessions.Sessions as sessions
@@ -98,7 +98,7 @@ use Rattle.repl_core.specs.contracts.machine.SharedText as shared_text
 use Rattle.journal_book.specs.contracts.book.Book as book
 use Rattle.slab.specs.contracts.Slab as slab
 use Rattle.tenant_asks.specs.contracts.cells.Cells as cells
-use Rattle.tenant_asks.specs.contracts.memory.Memory as memory
+use Rattle.tenant_asks.specs.contracts.memory.Remembered as memory
 use Rattle.ref_history.specs.contracts.ring_ref.RingRef as ring_ref
 use Rattle.version_rings.specs.contracts.rings.Rings as rings
 use Rattle.version_rings.specs.contracts.rings.Rings.TheInside as rings_inside

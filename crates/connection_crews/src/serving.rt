@@ -9,7 +9,7 @@ use crate::crew::{Crew, Post, Shift};
 use crate::errors::ServeError;
 use crate::gate::Gate;
 use connection_queue::{Accepted, Feed, Ticket, another_ticket, queue, send};
-use journal_book::{Book, Entry, Report, Seat};
+use journal_book::{Book, JournalEntry, Report, Seat};
 use knowing_book::{KnowingBook, Naming, Opened};
 use repl_core::Config;
 use std::alloc::{AllocError, Global};
@@ -68,7 +68,7 @@ fn serve_book<
     alloc: Global,
     listener: &TcpListener,
     book: Book<L>,
-    opened: Opened<Entry>,
+    opened: Opened<JournalEntry>,
     options: Options,
     gate: G,
 ) -> Result<(Book<L>, Report), ServeError>

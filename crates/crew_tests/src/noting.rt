@@ -3,7 +3,7 @@ ghost use Rattle.std.specs.Prelude.{◌≡◌};
 
 use crate::client::{Client, DONE};
 use connection_crews::{Gate, Options, ServeError, serve};
-use journal_book::{Book, Entry, PARTS, Report};
+use journal_book::{Book, JournalEntry, PARTS, Report};
 use repl_asks::Ask;
 use repl_core::{Config, RETRIES, STEPS, SharedText};
 use server_rules::Actor;
@@ -69,9 +69,9 @@ fn drained<L: Ledger>(alloc: Global, book: &Book<L>, tenant: u64) -> Result<Vec<
 }
 
 // What these entries say that a tenant was given, behind the bytes that are there.
-fn add_drained(all: &mut Vec<u8>, entries: &[Entry], tenant: u64) -> Result<(), AllocError> {
+fn add_drained(all: &mut Vec<u8>, entries: &[JournalEntry], tenant: u64) -> Result<(), AllocError> {
     for entry in entries {
-        if let Entry::Drained(number, reply) = entry {
+        if let JournalEntry::Drained(number, reply) = entry {
             if *number == tenant {
                 all.extend_from_slice(reply.as_slice())?;
             }

@@ -11,7 +11,7 @@ use Rattle.server_rules.specs.Machine.World.{opened_world}
 use Rattle.server_rules.specs.Plan.{hears, starts, asks_for, ends, drains, StepAnswer}
 use Rattle.server_rules.proofs.Alone.{before-alone}
 use Rattle.journal_book.specs.Journal.{EntryData, IsJournal}
-use Rattle.journal_book.specs.Alone.{bytes_to, NamesNoSharedIn, steps_of, turn_by, turns_of, IsHonest}
+use Rattle.journal_book.specs.Alone.{bytes_to, NamesNoSharedIn, own_steps, turn_for, own_turns, IsHonest}
 
 -- Turns that make the steps of these entries, one after another.
 abbrev Follows : Ground → World → List Turn → List EntryData → Type 0
@@ -97,14 +97,14 @@ given-follows : (g : Ground) (w : World) (es : List EntryData) → Follows g w (
 given-follows g w [] = tt
 given-follows g w (e ∷ es) = (refl, refl, given-follows g (world_or w (step g w e.step)) es)
 
-given-own : (t : ℕ) (es : List EntryData) → turns_of_tenant t (map given-by es) ≡ steps_of t es
+given-own : (t : ℕ) (es : List EntryData) → turns_of_tenant t (map given-by es) ≡ own_steps t es
 given-own t [] = refl
 given-own t (e ∷ es) =
     ap (λ ts. if t == whose_step e.step then given e.step ∷ ts else ts) (given-own t es)
 
 pub steps-alone : (g : Ground) (t : ℕ) (now : World) (es : List EntryData)
     → IsJournal g (opened_world g) es now → NamesNoSharedIn t es
-    → bytes_to t es ≡ serve g (opened_world g) (steps_of t es) t
+    → bytes_to t es ≡ serve g (opened_world g) (own_steps t es) t
 steps-alone g t now es leads private =
     follows-alone g t now (map given-by es) es leads (given-follows g (opened_world g) es) private
     ∙ ap (λ ts. serve g (opened_world g) ts t) (given-own t es)
@@ -112,12 +112,12 @@ steps-alone g t now es leads private =
 -- The turns of a tenant that is honest
 
 abbrev honest-or-given : Bool → Step → Turn
-honest-or-given b s = if b then turn_by s else given s
+honest-or-given b s = if b then turn_for s else given s
 
 abbrev honest-by : ℕ → EntryData → Turn
 honest-by t e = honest-or-given (t == whose_step e.step) e.step
 
-whose-turn_by : (s : Step) → whose (turn_by s) ≡ whose_step s
+whose-turn_by : (s : Step) → whose (turn_for s) ≡ whose_step s
 whose-turn_by (opens t) = refl
 whose-turn_by (closes t) = refl
 whose-turn_by (does t (hears piece)) = refl
@@ -131,7 +131,7 @@ whose-honest true s = whose-turn_by s
 whose-honest false s = refl
 
 step-honest : (g : Ground) (w : World) (b : Bool) (s : Step)
-    → MatchBool b (step_of g w (turn_by s) ≡ s) ⊤ → step_of g w (honest-or-given b s) ≡ s
+    → MatchBool b (step_of g w (turn_for s) ≡ s) ⊤ → step_of g w (honest-or-given b s) ≡ s
 step-honest g w true s is = is
 step-honest g w false s is = refl
 
@@ -145,22 +145,22 @@ honest-follows g t w (e ∷ es) honest = (
 )
 
 own-honest : (b : Bool) (s : Step) (ts : List Turn)
-    → (if b then honest-or-given b s ∷ ts else ts) ≡ (if b then turn_by s ∷ ts else ts)
+    → (if b then honest-or-given b s ∷ ts else ts) ≡ (if b then turn_for s ∷ ts else ts)
 own-honest true s ts = refl
 own-honest false s ts = refl
 
-honest-own : (t : ℕ) (es : List EntryData) → turns_of_tenant t (map (honest-by t) es) ≡ turns_of t es
+honest-own : (t : ℕ) (es : List EntryData) → turns_of_tenant t (map (honest-by t) es) ≡ own_turns t es
 honest-own t [] = refl
 honest-own t (e ∷ es) =
     let b : Bool = t == whose_step e.step in
     let ts = turns_of_tenant t (map (honest-by t) es) in
     ap (λ n. if t == n then honest-by t e ∷ ts else ts) (whose-honest b e.step)
     ∙ own-honest b e.step ts
-    ∙ ap (λ ts. if b then turn_by e.step ∷ ts else ts) (honest-own t es)
+    ∙ ap (λ ts. if b then turn_for e.step ∷ ts else ts) (honest-own t es)
 
 pub turns-alone : (g : Ground) (t : ℕ) (now : World) (es : List EntryData)
     → IsJournal g (opened_world g) es now → NamesNoSharedIn t es → IsHonest g (opened_world g) t es
-    → bytes_to t es ≡ serve g (opened_world g) (turns_of t es) t
+    → bytes_to t es ≡ serve g (opened_world g) (own_turns t es) t
 turns-alone g t now es leads private honest =
     follows-alone g t now (map (honest-by t) es) es leads (honest-follows g t (opened_world g) es honest)
     private

@@ -14,9 +14,9 @@ use Rattle.server_rules.specs.Machine.World.{ended_as, deed_step, step}
 use Rattle.ref_table.specs.Numbered.{part_under}
 use Rattle.server_rules.specs.Plan.{Outcome, refuses, leaves, Plan, ends, form_finished}
 use Rattle.server_rules.specs.Deeds.{for_actor, plan}
-use Rattle.server_rules.specs.Request.{Hand, Run}
+use Rattle.server_rules.specs.Request.{WorkInHand, Run}
 use Rattle.ref_table.specs.Store.{Store}
-use Rattle.server_rules.specs.Tenant.{ActorData, Quiet, seat_of, is_held}
+use Rattle.server_rules.specs.Tenant.{ActorData, TenantState, seat_of, is_held}
 use Rattle.server_rules.specs.declared.actor.Actor.{Actor}
 use Rattle.tenant_world.specs.Running.{running_of, running_in}
 use Rattle.repl_core.specs.AttemptsUnderWay.{form_in}
@@ -28,15 +28,15 @@ module _ (g : Ground) (a : Actor) (e : EndingData) (exact : AreExact g.compariso
   run = record { job = e.job; trace = e.trace }
 
   -- where the outcome is that the form finished, this is the form that runs
-  abbrev OutcomeTells : Quiet → Outcome → Type 0
+  abbrev OutcomeTells : TenantState → Outcome → Type 0
   OutcomeTells q (refuses why) = ⊤
   OutcomeTells q (leaves later answer) = answer ≡ form_finished → running_in a q ≡ Some run
 
-  abbrev Tells : Quiet → Plan → Type 0
+  abbrev Tells : TenantState → Plan → Type 0
   Tells q p = (told : Option AnswerData) → OutcomeTells q (p.next told)
 
-  module _ (q : Quiet) where
-    compared-by : (actor : ActorData) (h : Hand) (form : Run) → running_in a q ≡ Some form
+  module _ (q : TenantState) where
+    compared-by : (actor : ActorData) (h : WorkInHand) (form : Run) → running_in a q ≡ Some form
         → (same : Bool) → g.comparisons.is_same_job e.job form.job ≡ same
         → (difference : Option ℕ) → g.comparisons.difference e.trace form.trace ≡ difference
         → Tells q (end_compared a actor h form e q same difference)
@@ -48,7 +48,7 @@ module _ (g : Ground) (a : Actor) (e : EndingData) (exact : AreExact g.compariso
         runs ∙ ap (λ j. Some (record { job = j; trace = form.trace })) (sym job)
         ∙ ap (λ t. Some (record { job = e.job; trace = t })) (sym trace)
 
-    running-by : (actor : ActorData) (h : Hand) (o : Option Run)
+    running-by : (actor : ActorData) (h : WorkInHand) (o : Option Run)
         → running_in a q ≡ o → Tells q (end_running g a actor h e q o)
     running-by actor h None is = λ told. tt
     running-by actor h (Some form) is = either (Tells q) actor.is_closed _ _
@@ -56,7 +56,7 @@ module _ (g : Ground) (a : Actor) (e : EndingData) (exact : AreExact g.compariso
         (either (Tells q) (is_held q) _ _ (λ told. tt)
         (compared-by actor h form is _ refl _ refl))
 
-    hand-by : (actor : ActorData) (o : Option Hand)
+    hand-by : (actor : ActorData) (o : Option WorkInHand)
         → running_in a q ≡ option_and_then (λ h. h.running) o → Tells q (end_of g a actor e q o)
     hand-by actor None is = λ told. tt
     hand-by actor (Some h) is = running-by actor h h.running is
@@ -75,20 +75,20 @@ module _ (g : Ground) (a : Actor) (e : EndingData) (exact : AreExact g.compariso
     StepTells (accepted later answer) = answer ≡ form_finished → form_in t a w ≡ Some run
 
     ended-by : (kept : TenantData) → open_in t w ≡ Some kept → (new : Store) (o : Outcome)
-        → OutcomeTells kept.quiet o → StepTells (ended_as w t new o)
+        → OutcomeTells kept.state o → StepTells (ended_as w t new o)
     ended-by kept there new (refuses why) tells = tt
     ended-by kept there new (leaves later answer) tells = λ finished.
-        ap (option_and_then (λ x. running_in a x.quiet)) there ∙ tells finished
+        ap (option_and_then (λ x. running_in a x.state)) there ∙ tells finished
 
     deed-by : (o : Option (Option TenantData)) → part_under t w.tenants ≡ o
         → StepTells (deed_step g w t (ends a e) o)
     deed-by None is = tt
     deed-by (Some None) is = tt
     deed-by (Some (Some kept)) is =
-        let called = performed (store_in w.around t kept.mine) (plan g t kept.quiet (ends a e)).call in
+        let called = performed (store_in w.around t kept.mine) (plan g t kept.state (ends a e)).call in
         ended-by kept (ap (option_and_then (λ part. part)) is) called.store
-        ((plan g t kept.quiet (ends a e)).next called.told)
-        (plan-tells kept.quiet t called.told)
+        ((plan g t kept.state (ends a e)).next called.told)
+        (plan-tells kept.state t called.told)
 
     made-by : StepTells (step g w (does t (ends a e)))
     unfolding step

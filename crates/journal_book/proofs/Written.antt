@@ -1,4 +1,4 @@
--- A step that was made is written down with one entry.
+-- A step that was made is written down with one entry_of.
 use Rattle.std.proofs.Common.{◌≡◌, ◌∙◌, ℕ, List, [], ◌∷◌, ◌++◌, Some, refl, sym, ap, subst}
 use Rattle.std.specs.Prelude.{unwrap_or, Box}
 use Rattle.std.specs.Global.{Global}
@@ -21,35 +21,35 @@ use Rattle.repl_core.specs.declared.machine.Config.{Config}
 use Rattle.repl_core.specs.declared.machine.Machine.{Machine}
 use Rattle.journal_book.specs.Forms.{form_told}
 use Rattle.journal_book.specs.Journal.{EntryData}
-use Rattle.journal_book.specs.Standing.{Keeps, KeepsFor, IsWritten, IsRefused, entry}
-use Rattle.journal_book.specs.View.{entry_in, entries, entries_behind, ending_of, no_form}
-use Rattle.journal_book.specs.declared.entry.Entry.{Entry}
+use Rattle.journal_book.specs.Standing.{KeepsJournal, KeepsFor, IsWritten, IsRefusedBehind, entry_of}
+use Rattle.journal_book.specs.View.{entry_in, entries, entries_behind, run_ended, no_form}
+use Rattle.journal_book.specs.declared.entry.JournalEntry.{JournalEntry}
 use Rattle.journal_book.proofs.EndsTold.{told-end}
 use Rattle.journal_book.proofs.FormsTold.{tells-forms}
 use Rattle.journal_book.proofs.Keeping.{keeps-on, keeps-still, answered-so, refused-so}
 
-pub one-more : (said : List EntryData) (es : List Entry) (e : Entry)
+pub one-more : (said : List EntryData) (es : List JournalEntry) (e : JournalEntry)
     → entries_behind said (es ++ e ∷ [])
     ≡ entries_behind said es ++ entry_in (entries_behind said es) e ∷ []
 one-more said [] e = refl
 one-more said (x ∷ es) e = one-more (said ++ entry_in said x ∷ []) es e
 
--- the entry says the step and its answer, behind those before it
-abbrev pub Says : List Entry → Entry → Step → StepAnswer → Type 0
-Says before e s answer = entry_in (entries before) e ≡ entry s answer
+-- the entry_of says the step and its answer, behind those before it
+abbrev pub Says : List JournalEntry → JournalEntry → Step → StepAnswer → Type 0
+Says before e s answer = entry_in (entries before) e ≡ entry_of s answer
 
-written-so : (before after : List Entry) (e : Entry) (s : Step) (answer : StepAnswer)
+written-so : (before after : List JournalEntry) (e : JournalEntry) (s : Step) (answer : StepAnswer)
     → after ≡ before ++ e ∷ [] → Says before e s answer
-    → entries after ≡ entries before ++ entry s answer ∷ []
+    → entries after ≡ entries before ++ entry_of s answer ∷ []
 written-so before after e s answer is says =
     ap entries is ∙ one-more [] before e ∙ ap (λ d. entries before ++ d ∷ []) says
 
 -- the machine makes the step for whatever it stands on
-abbrev pub Makes : Config → Machine → Machine → List Entry → Step → StepAnswer → Type 0
+abbrev pub Makes : Config → Machine → Machine → List JournalEntry → Step → StepAnswer → Type 0
 Makes config old new before s answer = (g : Ground) → IsConfigured g config
-    → (k : Keeps g old (entries before)) → AcceptsStep g k.world s new answer
+    → (k : KeepsJournal g old (entries before)) → AcceptsStep g k.world s new answer
 
-module _ (config : Config) (old new : Machine) (before after : List Entry) (e : Entry) (s : Step)
+module _ (config : Config) (old new : Machine) (before after : List JournalEntry) (e : JournalEntry) (s : Step)
     (answer : StepAnswer) (keeps : KeepsFor config old (entries before))
     (is : after ≡ before ++ e ∷ []) (says : Says before e s answer)
     (makes : Makes config old new before s answer) where
@@ -71,38 +71,38 @@ module _ (config : Config) (old new : Machine) (before after : List Entry) (e : 
   )
 
 -- the machine refuses the step for whatever it stands on
-abbrev pub Refuses : Config → Machine → Machine → List Entry → Step → Refusal → Type 0
+abbrev pub Refuses : Config → Machine → Machine → List JournalEntry → Step → Refusal → Type 0
 Refuses config old new before s why = (g : Ground) → IsConfigured g config
-    → (k : Keeps g old (entries before)) → RefusesStep g k.world s new why
+    → (k : KeepsJournal g old (entries before)) → RefusesStep g k.world s new why
 
-module _ (config : Config) (old new : Machine) (before : List Entry) (s : Step) (why : Refusal)
+module _ (config : Config) (old new : Machine) (before : List JournalEntry) (s : Step) (why : Refusal)
     (keeps : KeepsFor config old (entries before))
     (refuses : Refuses config old new before s why) where
-  pub keeps-unwritten : (after : List Entry) → after ≡ before → KeepsFor config new (entries after)
+  pub keeps-unwritten : (after : List JournalEntry) → after ≡ before → KeepsFor config new (entries after)
   keeps-unwritten after is = (
     keeps.0,
     λ g conf.
         let k = keeps.1 g conf in
-        subst (λ es. Keeps g new (entries es)) (sym is)
+        subst (λ es. KeepsJournal g new (entries es)) (sym is)
         (keeps-still g old new (entries before) s why k (refuses g conf k)),
   )
 
-  pub is-refused : IsRefused config (entries before) s why
+  pub is-refused : IsRefusedBehind config (entries before) s why
   is-refused other g w conf leads =
       let k = keeps.1 g conf in
       refused-so g old new (entries before) s why k (refuses g conf k) other w leads
 
 -- nothing was made
-pub keeps-same : (config : Config) (m : Machine) (before after : List Entry)
+pub keeps-same : (config : Config) (m : Machine) (before after : List JournalEntry)
     → KeepsFor config m (entries before) → after ≡ before → KeepsFor config m (entries after)
 keeps-same config m before after keeps is = subst (λ es. KeepsFor config m (entries es)) (sym is) keeps
 
 -- an end says its whole ending: what went before tells the rest
-pub says-end : (config : Config) (old new : Machine) (before : List Entry) (t : ℕ) (a : Actor)
+pub says-end : (config : Config) (old new : Machine) (before : List JournalEntry) (t : ℕ) (a : Actor)
     (ending : EndingData) (end : EndData) → KeepsFor config old (entries before)
     → Makes config old new before (does t (ends a ending)) form_finished → end ≡ ending.end
-    → entry (does t (ends a (ending_of (unwrap_or (form_told t a (entries before)) no_form) end)))
-    form_finished ≡ entry (does t (ends a ending)) form_finished
+    → entry_of (does t (ends a (run_ended (unwrap_or (form_told t a (entries before)) no_form) end)))
+    form_finished ≡ entry_of (does t (ends a ending)) form_finished
 says-end config old new before t a ending end keeps makes same =
     let g : Ground = keeps.0.0 in
     let conf : IsConfigured g config = keeps.0.1 in
@@ -112,14 +112,14 @@ says-end config old new before t a ending end keeps makes same =
     let told : form_told t a (entries before) ≡ Some run =
     tells-forms g k.world (entries before) k.leads t a run
     (told-end g k.world made.after t a ending conf.right made.accepted) in
-    ap (λ o. entry (does t (ends a (ending_of (unwrap_or o no_form) end))) form_finished) told
-    ∙ ap (λ x. entry (does t (ends a (ending_of run x))) form_finished) same
+    ap (λ o. entry_of (does t (ends a (run_ended (unwrap_or o no_form) end))) form_finished) told
+    ∙ ap (λ x. entry_of (does t (ends a (run_ended run x))) form_finished) same
 
--- whichever entry is kept of an end, it says the step and its answer
-pub says-ended : (config : Config) (old new : Machine) (before : List Entry) (t : ℕ) (a : Actor)
-    (noted : Box Finished Global) (ending : Box Ending Global) (answer : EndAnswer) (e : Entry)
-    → (answer ≡ EndAnswer.Finished → e ≡ Entry.Ended t a noted)
-    → (answer ≡ EndAnswer.Interrupted → e ≡ Entry.Interrupted t a ending)
+-- whichever entry_of is kept of an end, it says the step and its answer
+pub says-ended : (config : Config) (old new : Machine) (before : List JournalEntry) (t : ℕ) (a : Actor)
+    (noted : Box Finished Global) (ending : Box Ending Global) (answer : EndAnswer) (e : JournalEntry)
+    → (answer ≡ EndAnswer.Finished → e ≡ JournalEntry.Ended t a noted)
+    → (answer ≡ EndAnswer.Interrupted → e ≡ JournalEntry.Interrupted t a ending)
     → KeepsFor config old (entries before)
     → Makes config old new before (does t (ends a (ending_view ending.value))) (end_answer_view answer)
     → finished_view noted.value ≡ finished_view ending.value.finished
@@ -134,7 +134,7 @@ says-ended config old new before t a noted ending EndAnswer.Interrupted e finish
     ap (entry_in (entries before)) (interrupted refl)
 
 -- the same step and the same answer in other words
-pub same-written : (config : Config) (before after : List Entry) (s other : Step)
+pub same-written : (config : Config) (before after : List JournalEntry) (s other : Step)
     (answer same : StepAnswer) → other ≡ s → same ≡ answer → IsWritten config before after s answer
     → IsWritten config before after other same
 same-written config before after s other answer same step told written =
@@ -142,6 +142,6 @@ same-written config before after s other answer same step told written =
     (subst (λ x. IsWritten config before after s x) (sym told) written)
 
 pub same-refused : (config : Config) (before : List EntryData) (s : Step) (why other : Refusal)
-    → other ≡ why → IsRefused config before s why → IsRefused config before s other
+    → other ≡ why → IsRefusedBehind config before s why → IsRefusedBehind config before s other
 same-refused config before s why other same refused =
-    subst (λ x. IsRefused config before s x) (sym same) refused
+    subst (λ x. IsRefusedBehind config before s x) (sym same) refused

@@ -19,10 +19,10 @@ NamesNoSharedIn t [] = ⊤
 NamesNoSharedIn t (e ∷ es) = IsPrivateFor t e.step × NamesNoSharedIn t es
 
 -- the tenant's steps, as turns that are given
-abbrev pub steps_of : ℕ → List EntryData → List Turn
-steps_of t [] = []
-steps_of t (e ∷ es) =
-    if t == whose_step e.step then given e.step ∷ steps_of t es else steps_of t es
+abbrev pub own_steps : ℕ → List EntryData → List Turn
+own_steps t [] = []
+own_steps t (e ∷ es) =
+    if t == whose_step e.step then given e.step ∷ own_steps t es else own_steps t es
 
 -- The same as turns of `drive`: where an actor starts, asks or ends, it goes on.
 
@@ -33,20 +33,20 @@ turn_by_deed t (ends a e) = goes t a
 turn_by_deed t (hears piece) = given (does t (hears piece))
 turn_by_deed t drains = given (does t drains)
 
-abbrev pub turn_by : Step → Turn
-turn_by (opens t) = given (opens t)
-turn_by (does t d) = turn_by_deed t d
-turn_by (closes t) = given (closes t)
+abbrev pub turn_for : Step → Turn
+turn_for (opens t) = given (opens t)
+turn_for (does t d) = turn_by_deed t d
+turn_for (closes t) = given (closes t)
 
-abbrev pub turns_of : ℕ → List EntryData → List Turn
-turns_of t [] = []
-turns_of t (e ∷ es) =
-    if t == whose_step e.step then turn_by e.step ∷ turns_of t es else turns_of t es
+abbrev pub own_turns : ℕ → List EntryData → List Turn
+own_turns t [] = []
+own_turns t (e ∷ es) =
+    if t == whose_step e.step then turn_for e.step ∷ own_turns t es else own_turns t es
 
 -- from this server on, each start, ask and end of the tenant's is the one with which its actor goes
 -- on
 abbrev pub IsHonest : Ground → World → ℕ → List EntryData → Type 0
 IsHonest g w t [] = ⊤
 IsHonest g w t (e ∷ es) =
-    MatchBool (t == whose_step e.step) (step_of g w (turn_by e.step) ≡ e.step) ⊤
+    MatchBool (t == whose_step e.step) (step_of g w (turn_for e.step) ≡ e.step) ⊤
     × IsHonest g (world_or w (step g w e.step)) t es

@@ -13,10 +13,10 @@ use Rattle.repl_core.specs.declared.machine.Machine.{Machine}
 use Rattle.journal_book.specs.Journal.{EntryData, IsJournal}
 use Rattle.journal_book.specs.View.{entries, BookData, SeatData, seat_with}
 use Rattle.journal_book.specs.declared.book.TheConstants.{TENANTS}
-use Rattle.journal_book.specs.declared.entry.Entry.{Entry}
+use Rattle.journal_book.specs.declared.entry.JournalEntry.{JournalEntry}
 
 -- the machine stands for the server to which the journal leads, from one to which nobody came
-pub record Keeps (g : Ground) (m : Machine) (journal : List EntryData) : Type 0 where
+pub record KeepsJournal (g : Ground) (m : Machine) (journal : List EntryData) : Type 0 where
   pub world : World
   pub leads : IsJournal g (opened_world g) journal world
   pub stands : MachineStands g m world
@@ -24,7 +24,7 @@ pub record Keeps (g : Ground) (m : Machine) (journal : List EntryData) : Type 0 
 -- so for whatever a server of this configuration stands on, and there is such
 abbrev pub KeepsFor : Config → Machine → List EntryData → Type 0
 KeepsFor config m journal =
-    ((g : Ground) × IsConfigured g config) × ((g : Ground) → IsConfigured g config → Keeps g m journal)
+    ((g : Ground) × IsConfigured g config) × ((g : Ground) → IsConfigured g config → KeepsJournal g m journal)
 
 -- the server to which the journal leads accepts the step, and answers so
 abbrev pub IsAnswered : Config → List EntryData → Step → StepAnswer → Type 0
@@ -32,8 +32,8 @@ IsAnswered config journal s answer = (g : Ground) (w : World) → IsConfigured g
     → IsJournal g (opened_world g) journal w → (after : World) × (step g w s ≡ accepted after answer)
 
 -- the server to which the journal leads refuses the step so, unless for want of memory
-abbrev pub IsRefused : Config → List EntryData → Step → Refusal → Type 0
-IsRefused config journal s why = why ≢ Refusal.NoMemory → (g : Ground) (w : World)
+abbrev pub IsRefusedBehind : Config → List EntryData → Step → Refusal → Type 0
+IsRefusedBehind config journal s why = why ≢ Refusal.NoMemory → (g : Ground) (w : World)
     → IsConfigured g config → IsJournal g (opened_world g) journal w → step g w s ≡ refused why
 
 -- so it is of each server to which the journal of the book leads
@@ -41,10 +41,10 @@ abbrev pub HoldsBehind : BookData → (Ground → World → Type 0) → Type 0
 HoldsBehind book P = (g : Ground) (w : World) → IsConfigured g book.config
     → IsJournal g (opened_world g) (entries book.journal) w → P g w
 
-abbrev pub entry : Step → StepAnswer → EntryData
-entry s answer = record { step = s; answer = answer }
+abbrev pub entry_of : Step → StepAnswer → EntryData
+entry_of s answer = record { step = s; answer = answer }
 
--- a book has one entry more, under the same configuration
+-- a book has one entry_of more, under the same configuration
 pub record Notes (old new : BookData) (e : EntryData) : Type 0 where
   pub config : new.config ≡ old.config
   pub journal : entries new.journal ≡ entries old.journal ++ e ∷ []
@@ -53,7 +53,7 @@ pub record Notes (old new : BookData) (e : EntryData) : Type 0 where
 -- server to which they led, and counted on the seat
 pub record IsMade
     (old new : BookData) (before after : SeatData) (s : Step) (told : StepAnswer) : Type 0 where
-  pub journal : Notes old new (entry s told)
+  pub journal : Notes old new (entry_of s told)
   pub answer : IsAnswered old.config (entries old.journal) s told
   pub counted : after ≡ seat_with before.tenant (before.made + 1)
   pub tenants : new.tenants ≡ old.tenants
@@ -62,14 +62,14 @@ pub record IsMade
 -- memory, and book and seat are as they were
 pub record IsDeclined
     (old new : BookData) (before after : SeatData) (s : Step) (why : Refusal) : Type 0 where
-  pub refused : IsRefused old.config (entries old.journal) s why
+  pub refused : IsRefusedBehind old.config (entries old.journal) s why
   pub book : new ≡ old
   pub seat : after ≡ before
 
 -- a tenant was opened, which has the next number
 pub record IsAdmitted (old new : BookData) (tenant : ℕ) : Type 0 where
   pub number : tenant ≡ old.tenants
-  pub journal : Notes old new (entry (opens tenant) tenant_opened)
+  pub journal : Notes old new (entry_of (opens tenant) tenant_opened)
   pub answer : IsAnswered old.config (entries old.journal) (opens old.tenants) tenant_opened
   pub tenants : new.tenants ≡ old.tenants + 1
 
@@ -77,34 +77,34 @@ pub record IsAdmitted (old new : BookData) (tenant : ℕ) : Type 0 where
 -- next one so, unless for want of memory
 abbrev pub RefusesTenant : BookData → Refusal → Type 0
 RefusesTenant b why = ((why ≡ Refusal.Full) × (b.tenants ≡ TENANTS))
-    ⊎ IsRefused b.config (entries b.journal) (opens b.tenants) why
+    ⊎ IsRefusedBehind b.config (entries b.journal) (opens b.tenants) why
 
 -- What a call makes of the machine and the journal that it is lent, for every configuration for
 -- which the machine keeps the journal.
 
 -- it keeps it on
-abbrev pub KeepsOn : Machine → List Entry → Machine → List Entry → Type 0
+abbrev pub KeepsOn : Machine → List JournalEntry → Machine → List JournalEntry → Type 0
 KeepsOn old before new after = (config : Config) → KeepsFor config old (entries before)
     → KeepsFor config new (entries after)
 
 -- the step stands behind the others with this answer, which is that of the server to which they led
-abbrev pub IsWritten : Config → List Entry → List Entry → Step → StepAnswer → Type 0
-IsWritten config before after s answer = (entries after ≡ entries before ++ entry s answer ∷ [])
+abbrev pub IsWritten : Config → List JournalEntry → List JournalEntry → Step → StepAnswer → Type 0
+IsWritten config before after s answer = (entries after ≡ entries before ++ entry_of s answer ∷ [])
     × IsAnswered config (entries before) s answer
 
 -- where the call succeeds the step was accepted, and is written down
-abbrev pub Writes : {A E : Type 0} → Step → Machine → List Entry → List Entry → Result A E
+abbrev pub Writes : {A E : Type 0} → Step → Machine → List JournalEntry → List JournalEntry → Result A E
     → (A → StepAnswer) → Type 0
 Writes s old before after result answer = (config : Config) → KeepsFor config old (entries before)
     → IfOk result (λ x. IsWritten config before after s (answer x))
 
--- there is one entry more, and their number fits 64 bits
-abbrev pub AddsOne : {A E : Type 0} → List Entry → List Entry → Result A E → Type 0
+-- there is one entry_of more, and their number fits 64 bits
+abbrev pub AddsOne : {A E : Type 0} → List JournalEntry → List JournalEntry → Result A E → Type 0
 AddsOne before after result =
     OnOk result ((length after ≡ length before + 1) × (length after < 2 ^ 64))
 
 -- where it fails the step is refused so
-abbrev pub Declines : {A E : Type 0} → Step → Machine → List Entry → Result A E → (E → Refusal)
+abbrev pub DeclinesEntry : {A E : Type 0} → Step → Machine → List JournalEntry → Result A E → (E → Refusal)
     → Type 0
-Declines s old before result why = (config : Config) → KeepsFor config old (entries before)
-    → IfErr result (λ e. IsRefused config (entries before) s (why e))
+DeclinesEntry s old before result why = (config : Config) → KeepsFor config old (entries before)
+    → IfErr result (λ e. IsRefusedBehind config (entries before) s (why e))

@@ -2,14 +2,14 @@
 use Rattle.std.specs.Prelude.{ℕ}
 use Rattle.server_rules.specs.Machine.Turns.{whose_step}
 use Rattle.repl_core.specs.Steps.{step_view}
-use Rattle.journal_book.specs.declared.entry.Entry.{Entry}
+use Rattle.journal_book.specs.declared.entry.JournalEntry.{JournalEntry}
 
-abbrev pub tenant_of : Entry → ℕ
-tenant_of (Entry.Started t a answer) = t
-tenant_of (Entry.Resolved t a it) = t
-tenant_of (Entry.Asked t a asked) = t
-tenant_of (Entry.Ended t a finished) = t
-tenant_of (Entry.Interrupted t a ending) = t
-tenant_of (Entry.Drained t reply) = t
-tenant_of (Entry.Heard t it) = t
-tenant_of (Entry.Other it) = whose_step (step_view it.value.step)
+abbrev pub whose_entry : JournalEntry → ℕ
+whose_entry (JournalEntry.Started t a answer) = t
+whose_entry (JournalEntry.Resolved t a it) = t
+whose_entry (JournalEntry.Asked t a asked) = t
+whose_entry (JournalEntry.Ended t a finished) = t
+whose_entry (JournalEntry.Interrupted t a ending) = t
+whose_entry (JournalEntry.Drained t reply) = t
+whose_entry (JournalEntry.Heard t it) = t
+whose_entry (JournalEntry.Other it) = whose_step (step_view it.value.step)

@@ -17,7 +17,7 @@ use Rattle.repl_core.specs.Steps.{step_view, step_answer_view}
 use Rattle.repl_core.specs.declared.machine.Config.{Config}
 use Rattle.journal_book.specs.Forms.{form_told}
 use Rattle.journal_book.specs.Journal.{EntryData}
-use Rattle.journal_book.specs.declared.entry.Entry.{Entry}
+use Rattle.journal_book.specs.declared.entry.JournalEntry.{JournalEntry}
 use Rattle.journal_book.specs.declared.entry.ResolvedSymbol.{ResolvedSymbol}
 
 -- of an actor of which no form was told: no such form ends
@@ -25,8 +25,8 @@ abbrev pub no_form : Run
 no_form = record { job = record { work = form nil; namespace = []; retries = 0 }; trace = [] }
 
 -- this form, ended so
-abbrev pub ending_of : Run → EndData → EndingData
-ending_of run end = record { job = run.job; trace = run.trace; end = end }
+abbrev pub run_ended : Run → EndData → EndingData
+run_ended run end = record { job = run.job; trace = run.trace; end = end }
 
 -- what a symbol names is asked
 abbrev pub symbol_ask : ResolvedSymbol → AskData
@@ -34,43 +34,43 @@ symbol_ask it = resolve (arc_str_bytes it.namespace) (arc_str_bytes it.symbol)
 
 -- What an entry says behind others. Where a form ended, these tell its job, and what it asked and
 -- was answered.
-abbrev pub entry_in : List EntryData → Entry → EntryData
-entry_in said (Entry.Started t a answer) =
+abbrev pub entry_in : List EntryData → JournalEntry → EntryData
+entry_in said (JournalEntry.Started t a answer) =
     record { step = does t (starts a); answer = start_answer_view answer.value }
-entry_in said (Entry.Resolved t a it) = record {
+entry_in said (JournalEntry.Resolved t a it) = record {
   step = does t (asks_for a (symbol_ask it.value));
   answer = ask_answered (resolution (resolution_view it.value.resolution));
 }
-entry_in said (Entry.Asked t a asked) = record {
+entry_in said (JournalEntry.Asked t a asked) = record {
   step = does t (asks_for a (ask_view asked.value.ask));
   answer = ask_answer_view asked.value.answer;
 }
-entry_in said (Entry.Ended t a finished) = record {
+entry_in said (JournalEntry.Ended t a finished) = record {
   step = does t (ends a
-      (ending_of (unwrap_or (form_told t a said) no_form) (finished_view finished.value)));
+      (run_ended (unwrap_or (form_told t a said) no_form) (finished_view finished.value)));
   answer = form_finished;
 }
-entry_in said (Entry.Interrupted t a ending) =
+entry_in said (JournalEntry.Interrupted t a ending) =
     record { step = does t (ends a (ending_view ending.value)); answer = request_interrupted }
-entry_in said (Entry.Drained t reply) =
+entry_in said (JournalEntry.Drained t reply) =
     record { step = does t drains; answer = reply_given reply.items }
-entry_in said (Entry.Heard t it) =
+entry_in said (JournalEntry.Heard t it) =
     record { step = does t (hears it.value.piece); answer = messages_heard it.value.messages }
-entry_in said (Entry.Other it) =
+entry_in said (JournalEntry.Other it) =
     record { step = step_view it.value.step; answer = step_answer_view it.value.answer }
 
 -- what entries say, one behind another
-abbrev pub entries_behind : List EntryData → List Entry → List EntryData
+abbrev pub entries_behind : List EntryData → List JournalEntry → List EntryData
 entries_behind said [] = said
 entries_behind said (e ∷ es) = entries_behind (said ++ entry_in said e ∷ []) es
 
-abbrev pub entries : List Entry → List EntryData
+abbrev pub entries : List JournalEntry → List EntryData
 entries = entries_behind []
 
 -- a book: its configuration, its journal, and how many tenants were admitted
 pub record BookData : Type 0 where
   pub config : Config
-  pub journal : List Entry
+  pub journal : List JournalEntry
   pub tenants : ℕ
 
 -- a seat: its tenant, and how many steps were counted on it

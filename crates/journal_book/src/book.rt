@@ -12,18 +12,18 @@ ghost use Rattle.server_rules.specs.Inside.Wires.{wire_at};
 ghost use Rattle.repl_core.specs.Standing.{open_in};
 ghost use Rattle.repl_core.specs.Steps.{step_view, step_answer_view};
 ghost use Rattle.journal_book.specs.Ahead.{next_text_in, tells_value_in};
-ghost use Rattle.journal_book.specs.Alone.{bytes_to, NamesNoSharedIn, IsHonest, steps_of, turns_of};
+ghost use Rattle.journal_book.specs.Alone.{bytes_to, NamesNoSharedIn, IsHonest, own_steps, own_turns};
 ghost use Rattle.tenant_parts.specs.Aside.{printed_in};
 ghost use Rattle.journal_book.specs.Beside.{PrintsStep};
 ghost use Rattle.journal_book.specs.Forms.{EndsAsTold};
 ghost use Rattle.journal_book.specs.Journal.{IsJournal};
 ghost use Rattle.journal_book.specs.View.{entries, seat_with};
-ghost use Rattle.journal_book.specs.Rows.{row, row_of, entries_of, counted_of, all_counted};
+ghost use Rattle.journal_book.specs.Rows.{made_row, row_of, entries_of, counted_of, all_counted};
 ghost use Rattle.journal_book.specs.Standing.{HoldsBehind, IsAdmitted, IsDeclined, IsMade};
 ghost use Rattle.journal_book.specs.Standing.{RefusesTenant};
 
 use crate::beside::Beside;
-use crate::entry::Entry;
+use crate::entry::JournalEntry;
 use crate::report::Report;
 use crate::seat::Seat;
 use crate::writing::{open, write};
@@ -49,7 +49,7 @@ pub const PARTS: u64 = 5_000_001;
 pub struct Book<L: Ledger> {
     alloc: Global,
     config: Config,
-    journal: Pages<Entry>,
+    journal: Pages<JournalEntry>,
     machine: Machine,
     counts: ledger::Book<L>,
     rest: Share<L>,
@@ -73,9 +73,9 @@ impl<L: Ledger> Drop for Book<L> {
 impl<L: Ledger> Model for Book<L> {
     ghost use Rattle.std.specs.Prelude.{◌≡◌, ◌+◌, ◌*◌, ◌≤◌, length};
     ghost use Rattle.std.specs.Coded.{codes};
-    ghost use Rattle.journal_book.specs.contracts.entry.Entry as kept;
+    ghost use Rattle.journal_book.specs.contracts.entry.JournalEntry as kept;
     ghost use Rattle.journal_book.specs.View.{BookData, entries};
-    ghost use Rattle.journal_book.specs.Rows.{row, row_of, entries_of, counted_of, all_counted};
+    ghost use Rattle.journal_book.specs.Rows.{made_row, row_of, entries_of, counted_of, all_counted};
     ghost use Rattle.journal_book.specs.Standing.{KeepsFor};
 
     ghost Value = { BookData };
@@ -159,11 +159,11 @@ impl<L: Ledger> Book<L> {
     pub fn serves_as_if_alone(&self)
         ensures steps { (g : Ground) (t : ℕ) → IsConfigured g self.now.config
             → let journal = entries self.now.journal in NamesNoSharedIn t journal
-            → bytes_to t journal ≡ serve g (opened_world g) (steps_of t journal) t }
+            → bytes_to t journal ≡ serve g (opened_world g) (own_steps t journal) t }
         ensures turns { (g : Ground) (t : ℕ) → IsConfigured g self.now.config
             → let journal = entries self.now.journal in NamesNoSharedIn t journal
             → IsHonest g (opened_world g) t journal
-            → bytes_to t journal ≡ serve g (opened_world g) (turns_of t journal) t }
+            → bytes_to t journal ≡ serve g (opened_world g) (own_turns t journal) t }
     {
         let _ = &self.config;
     }
@@ -177,7 +177,7 @@ impl<L: Ledger> Book<L> {
     }
 
     /// The steps that were accepted, with their answers, in order.
-    pub fn journal(&self) -> &Pages<Entry>
+    pub fn journal(&self) -> &Pages<JournalEntry>
         ensures { result.now.items ≡ self.now.journal }
     {
         &self.journal
@@ -188,7 +188,7 @@ impl<L: Ledger> Book<L> {
     /// has something to do, and takes no memory.
     pub fn ready(&self, tenant: u64) -> Option<Actor>
         ensures { HoldsBehind self.now (λ _ w.
-            result ≡ option_and_then (λ it. ready it.quiet) (open_in tenant w)) }
+            result ≡ option_and_then (λ it. ready it.state) (open_in tenant w)) }
     {
         self.machine.ready(tenant)
     }
@@ -196,7 +196,7 @@ impl<L: Ledger> Book<L> {
     /// What has come of a tenant's stream, if the tenant is open. It takes no memory.
     pub fn wire(&self, tenant: u64) -> Option<Wire>
         ensures { HoldsBehind self.now (λ g w. result
-            ≡ option_map (λ it. wire_at (g.readings.stream it.quiet.heard).ending)
+            ≡ option_map (λ it. wire_at (g.readings.stream it.state.heard).ending)
             (open_in tenant w)) }
     {
         Some(self.machine.tenant(tenant)?.wire())
@@ -300,7 +300,7 @@ impl<L: Ledger> Book<L> {
         requires whole { L.parts ≡ 5000001 }
         ensures book { IfOk result (λ r. r.0 ≡ self) }
         ensures rows { IfOk result (λ r. (t : ℕ) → row_of t r.1
-            ≡ row (entries_of t (entries self.journal)) (counted_of t seats.items)) }
+            ≡ made_row (entries_of t (entries self.journal)) (counted_of t seats.items)) }
         ensures all { OnOk result (vec_len seats ≡ 5 * self.tenants
             → all_counted seats.items ≡ length self.journal) }
         ensures refused { IfErr result (λ it. (it.book ≡ self) × (it.seats ≡ seats)) }

@@ -1,7 +1,7 @@
 // The entries of a journal.
 ghost use Rattle.std.specs.Prelude.{◌≡◌, IfOk};
 ghost use Rattle.repl_asks.specs.Inside.Jobs.{finished_view};
-ghost use Rattle.journal_book.specs.Tenants.{tenant_of};
+ghost use Rattle.journal_book.specs.Tenants.{whose_entry};
 
 use bytes::Bytes;
 use repl_asks::{Ask, Finished, Resolution};
@@ -17,7 +17,7 @@ use tenant_world::StartAnswer;
 /// A step that was accepted, with its answer. What is large stands in a box, so that an entry is
 /// small. Each begins with the number of the tenant, and then the actor, if one made it.
 #[derive(Drop)]
-pub enum Entry {
+pub enum JournalEntry {
     /// The actor began its next form, or took up its next request.
     Started(u64, Actor, Box<StartAnswer>),
     /// The form of the actor asked what a symbol names, and was told so. Most asks are such, and a
@@ -67,20 +67,20 @@ pub struct AcceptedStep {
     pub answer: StepAnswer,
 }
 
-impl Entry {
+impl JournalEntry {
     /// The number of the tenant whose step it is.
     pub fn tenant(&self) -> u64
-        ensures { result ≡ tenant_of self.now }
+        ensures { result ≡ whose_entry self.now }
     {
         match self {
-            Entry::Started(number, _, _)
-            | Entry::Resolved(number, _, _)
-            | Entry::Asked(number, _, _)
-            | Entry::Ended(number, _, _)
-            | Entry::Interrupted(number, _, _)
-            | Entry::Drained(number, _)
-            | Entry::Heard(number, _) => *number,
-            Entry::Other(accepted) => accepted.step.tenant(),
+            JournalEntry::Started(number, _, _)
+            | JournalEntry::Resolved(number, _, _)
+            | JournalEntry::Asked(number, _, _)
+            | JournalEntry::Ended(number, _, _)
+            | JournalEntry::Interrupted(number, _, _)
+            | JournalEntry::Drained(number, _)
+            | JournalEntry::Heard(number, _) => *number,
+            JournalEntry::Other(accepted) => accepted.step.tenant(),
         }
     }
 }

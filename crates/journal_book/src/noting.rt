@@ -9,12 +9,12 @@ ghost use Rattle.tenant_world.specs.Answers.{start_answer_view};
 ghost use Rattle.repl_core.specs.Steps.{step_view, step_answer_view};
 ghost use Rattle.journal_book.specs.Inside.Noting.{IsNoteOf, IsNarrowFor};
 ghost use Rattle.tenant_world.specs.declared.answers.EndAnswer as EndAnswer;
-ghost use Rattle.journal_book.specs.declared.entry.Entry as Entry;
+ghost use Rattle.journal_book.specs.declared.entry.JournalEntry as JournalEntry;
 ghost use Rattle.journal_book.specs.Journal.{EntryData};
-ghost use Rattle.journal_book.specs.Standing.{entry};
+ghost use Rattle.journal_book.specs.Standing.{entry_of};
 ghost use Rattle.journal_book.specs.View.{entry_in, symbol_ask};
 
-use crate::entry::{AcceptedStep, AnsweredAsk, Entry, HeardPiece, ResolvedSymbol};
+use crate::entry::{AcceptedStep, AnsweredAsk, JournalEntry, HeardPiece, ResolvedSymbol};
 use repl_asks::{Answer, Ask, Finished, Resolution};
 use repl_core::{Step, StepAnswer};
 use repl_values::{Value, copy_text};
@@ -50,10 +50,10 @@ impl AskNote {
     }
 
     /// The entry of the ask, with this answer.
-    pub(crate) fn answered(self, tenant: u64, actor: Actor, answer: AskAnswer) -> Entry
+    pub(crate) fn answered(self, tenant: u64, actor: Actor, answer: AskAnswer) -> JournalEntry
         ensures { (ask : AskData) (said : List EntryData) → IsNoteOf self ask
             → entry_in said result
-            ≡ entry (does tenant (asks_for actor ask)) (ask_answer_view answer) }
+            ≡ entry_of (does tenant (asks_for actor ask)) (ask_answer_view answer) }
     {
         let AskNote { wide, narrow } = self;
         match narrow {
@@ -85,15 +85,15 @@ fn narrow_entry(
     wide: Box<AnsweredAsk>,
     mut narrow: Box<ResolvedSymbol>,
     answer: AskAnswer,
-) -> Entry
+) -> JournalEntry
     ensures { (ask : AskData) (said : List EntryData) → ask_view wide.value.ask ≡ ask
         → symbol_ask narrow.value ≡ ask → entry_in said result
-        ≡ entry (does tenant (asks_for actor ask)) (ask_answer_view answer) }
+        ≡ entry_of (does tenant (asks_for actor ask)) (ask_answer_view answer) }
 {
     match answer {
         AskAnswer::Answer(Answer::Resolution(resolution)) => {
             narrow.resolution = resolution;
-            Entry::Resolved(tenant, actor, narrow)
+            JournalEntry::Resolved(tenant, actor, narrow)
         }
         AskAnswer::Answer(answer) => wide_entry(tenant, actor, wide, AskAnswer::Answer(answer)),
         AskAnswer::Interrupted => wide_entry(tenant, actor, wide, AskAnswer::Interrupted),
@@ -101,13 +101,13 @@ fn narrow_entry(
 }
 
 // The entry of any ask.
-fn wide_entry(tenant: u64, actor: Actor, mut wide: Box<AnsweredAsk>, answer: AskAnswer) -> Entry
+fn wide_entry(tenant: u64, actor: Actor, mut wide: Box<AnsweredAsk>, answer: AskAnswer) -> JournalEntry
     ensures { (ask : AskData) (said : List EntryData) → ask_view wide.value.ask ≡ ask
         → entry_in said result
-        ≡ entry (does tenant (asks_for actor ask)) (ask_answer_view answer) }
+        ≡ entry_of (does tenant (asks_for actor ask)) (ask_answer_view answer) }
 {
     wide.answer = answer;
-    Entry::Asked(tenant, actor, wide)
+    JournalEntry::Asked(tenant, actor, wide)
 }
 
 /// The entry of a start that was answered so.
@@ -116,12 +116,12 @@ pub(crate) fn start_entry(
     actor: Actor,
     mut noted: Box<StartAnswer>,
     answer: StartAnswer,
-) -> Entry
+) -> JournalEntry
     ensures { (said : List EntryData) → entry_in said result
-        ≡ entry (does tenant (starts actor)) (start_answer_view answer) }
+        ≡ entry_of (does tenant (starts actor)) (start_answer_view answer) }
 {
     *noted = answer;
-    Entry::Started(tenant, actor, noted)
+    JournalEntry::Started(tenant, actor, noted)
 }
 
 /// The entry of an end that was answered so, and the ending where the entry needs nothing of it.
@@ -131,31 +131,31 @@ pub(crate) fn end_entry(
     noted: Box<Finished>,
     ending: Box<Ending>,
     answer: EndAnswer,
-) -> (Entry, Option<Box<Ending>>)
-    ensures finished { answer ≡ EndAnswer.Finished → result.0 ≡ Entry.Ended tenant actor noted }
+) -> (JournalEntry, Option<Box<Ending>>)
+    ensures finished { answer ≡ EndAnswer.Finished → result.0 ≡ JournalEntry.Ended tenant actor noted }
     ensures interrupted { answer ≡ EndAnswer.Interrupted
-        → result.0 ≡ Entry.Interrupted tenant actor ending }
+        → result.0 ≡ JournalEntry.Interrupted tenant actor ending }
 {
     match answer {
-        EndAnswer::Finished => (Entry::Ended(tenant, actor, noted), Some(ending)),
-        EndAnswer::Interrupted => (Entry::Interrupted(tenant, actor, ending), None),
+        EndAnswer::Finished => (JournalEntry::Ended(tenant, actor, noted), Some(ending)),
+        EndAnswer::Interrupted => (JournalEntry::Interrupted(tenant, actor, ending), None),
     }
 }
 
 /// The entry of a piece by which so many messages became whole.
-pub(crate) fn heard_entry(tenant: u64, mut noted: Box<HeardPiece>, messages: usize) -> Entry
+pub(crate) fn heard_entry(tenant: u64, mut noted: Box<HeardPiece>, messages: usize) -> JournalEntry
     ensures { (said : List EntryData) → entry_in said result
-        ≡ entry (does tenant (hears noted.value.piece)) (messages_heard messages) }
+        ≡ entry_of (does tenant (hears noted.value.piece)) (messages_heard messages) }
 {
     noted.messages = messages;
-    Entry::Heard(tenant, noted)
+    JournalEntry::Heard(tenant, noted)
 }
 
 /// The entry of any step that was answered so.
-pub(crate) fn step_entry(mut noted: Box<AcceptedStep>, step: Step, answer: StepAnswer) -> Entry
+pub(crate) fn step_entry(mut noted: Box<AcceptedStep>, step: Step, answer: StepAnswer) -> JournalEntry
     ensures { (said : List EntryData) → entry_in said result
-        ≡ entry (step_view step) (step_answer_view answer) }
+        ≡ entry_of (step_view step) (step_answer_view answer) }
 {
     *noted = AcceptedStep { step, answer };
-    Entry::Other(noted)
+    JournalEntry::Other(noted)
 }

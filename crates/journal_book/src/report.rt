@@ -1,9 +1,9 @@
 // The report of a book that is closed.
 ghost use Rattle.std.specs.Prelude.{◌≡◌, ◌≢◌, ◌+◌, ◌%◌, ◌^◌, ℕ, IfOk, OnOk, sum_by};
 ghost use Rattle.journal_book.specs.View.{entries};
-ghost use Rattle.journal_book.specs.Rows.{row, row_of, entries_of, entries_by, counted_of};
+ghost use Rattle.journal_book.specs.Rows.{made_row, row_of, entries_of, entries_by, counted_of};
 
-use crate::entry::Entry;
+use crate::entry::JournalEntry;
 use crate::seat::Seat;
 use paged_list::Pages;
 use std::alloc::{AllocError, Global};
@@ -29,11 +29,11 @@ impl Report {
     // only for want of memory, or where a count does not fit 64 bits.
     pub(crate) fn of<L: Ledger>(
         alloc: Global,
-        journal: &Pages<Entry>,
+        journal: &Pages<JournalEntry>,
         seats: &[Seat<L>],
     ) -> Result<Report, AllocError>
         ensures { IfOk result (λ report. (t : ℕ) → row_of t report
-            ≡ row (entries_of t (entries journal.now.items)) (counted_of t seats.now % 2 ^ 64)) }
+            ≡ made_row (entries_of t (entries journal.now.items)) (counted_of t seats.now % 2 ^ 64)) }
     {
         let mut report = Report {
             rows: BTreeMap::new(alloc),
@@ -43,10 +43,10 @@ impl Report {
         Ok(report)
     }
 
-    fn add_entries(&mut self, journal: &Pages<Entry>) -> Result<(), AllocError>
-        requires { (t : ℕ) → row_of t self.old ≡ row 0 0 }
+    fn add_entries(&mut self, journal: &Pages<JournalEntry>) -> Result<(), AllocError>
+        requires { (t : ℕ) → row_of t self.old ≡ made_row 0 0 }
         ensures { OnOk result ((t : ℕ) → row_of t self.new
-            ≡ row (entries_of t (entries journal.now.items)) 0) }
+            ≡ made_row (entries_of t (entries journal.now.items)) 0) }
     {
         let (full, last) = journal.pages();
         self.add_pages(full)?;
@@ -54,9 +54,9 @@ impl Report {
         Ok(())
     }
 
-    fn add_pages(&mut self, pages: &[Vec<Entry>]) -> Result<(), AllocError>
+    fn add_pages(&mut self, pages: &[Vec<JournalEntry>]) -> Result<(), AllocError>
         ensures { OnOk result ((t : ℕ) → row_of t self.new
-            ≡ row ((row_of t self.old).journalled
+            ≡ made_row ((row_of t self.old).journalled
             + sum_by (λ page. entries_by t page.items) pages.now) (row_of t self.old).made) }
     {
         for i in 0..pages.len() {
@@ -65,9 +65,9 @@ impl Report {
         Ok(())
     }
 
-    fn add_page(&mut self, page: &[Entry]) -> Result<(), AllocError>
+    fn add_page(&mut self, page: &[JournalEntry]) -> Result<(), AllocError>
         ensures { OnOk result ((t : ℕ) → row_of t self.new
-            ≡ row ((row_of t self.old).journalled + entries_by t page.now)
+            ≡ made_row ((row_of t self.old).journalled + entries_by t page.now)
             (row_of t self.old).made) }
     {
         for i in 0..page.len() {
@@ -89,7 +89,7 @@ impl Report {
     fn add_seats<L: Ledger>(&mut self, seats: &[Seat<L>]) -> Result<(), AllocError>
         requires { (t : ℕ) → (row_of t self.old).made ≡ 0 }
         ensures { OnOk result ((t : ℕ) → row_of t self.new
-            ≡ row (row_of t self.old).journalled (counted_of t seats.now % 2 ^ 64)) }
+            ≡ made_row (row_of t self.old).journalled (counted_of t seats.now % 2 ^ 64)) }
     {
         for i in 0..seats.len() {
             let tenant = seats[i].tenant();
@@ -113,7 +113,7 @@ impl Report {
     }
 
     fn put(&mut self, tenant: u64, row: Row) -> Result<(), AllocError>
-        ensures put { OnOk result (row_of tenant self.new ≡ row) }
+        ensures put { OnOk result (row_of tenant self.new ≡ made_row) }
         ensures others { OnOk result ((t : ℕ) → t ≢ tenant
             → row_of t self.new ≡ row_of t self.old) }
     {

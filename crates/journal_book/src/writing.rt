@@ -20,11 +20,11 @@ ghost use Rattle.tenant_parts.specs.Aside.{printed_in};
 ghost use Rattle.tenant_parts.specs.Printed.{PrintsEnd};
 ghost use Rattle.journal_book.specs.Beside.{PrintsStep};
 ghost use Rattle.journal_book.specs.Forms.{EndsAsTold};
-ghost use Rattle.journal_book.specs.Standing.{KeepsOn, Writes, AddsOne, Declines};
+ghost use Rattle.journal_book.specs.Standing.{KeepsOn, Writes, AddsOne, DeclinesEntry};
 ghost use Rattle.journal_book.specs.View.{entries};
 
 use crate::beside::Beside;
-use crate::entry::{Entry, end_to_note, piece_to_note, start_to_note, step_to_note};
+use crate::entry::{JournalEntry, end_to_note, piece_to_note, start_to_note, step_to_note};
 use crate::noting::{AskNote, end_entry, heard_entry, start_entry, step_entry};
 use bytes::Bytes;
 use paged_list::Pages;
@@ -42,14 +42,14 @@ use tenant_world::{EndAnswer, StartAnswer};
 pub(crate) fn open(
     alloc: Global,
     machine: &mut Machine,
-    journal: &mut Pages<Entry>,
+    journal: &mut Pages<JournalEntry>,
     tenant: u64,
 ) -> Result<(), Refusal>
     ensures keeps { KeepsOn machine.old journal.old.items machine.new journal.new.items }
     ensures written { Writes (opens tenant) machine.old journal.old.items journal.new.items result
         (λ _. tenant_opened) }
     ensures one { AddsOne journal.old.items journal.new.items result }
-    ensures declined { Declines (opens tenant) machine.old journal.old.items result (λ why. why) }
+    ensures declined { DeclinesEntry (opens tenant) machine.old journal.old.items result (λ why. why) }
     ensures stays { OnErr result (journal.new.items ≡ journal.old.items) }
 {
     let Ok(()) = journal.make_room() else {
@@ -72,7 +72,7 @@ pub(crate) fn open(
 pub(crate) fn write(
     alloc: Global,
     machine: &mut Machine,
-    journal: &mut Pages<Entry>,
+    journal: &mut Pages<JournalEntry>,
     step: Step,
     is_known: bool,
     beside: &mut Beside,
@@ -83,7 +83,7 @@ pub(crate) fn write(
     ensures written { Writes (step_view step) machine.old journal.old.items journal.new.items result
         step_answer_view }
     ensures one { AddsOne journal.old.items journal.new.items result }
-    ensures declined { Declines (step_view step) machine.old journal.old.items result
+    ensures declined { DeclinesEntry (step_view step) machine.old journal.old.items result
         (λ it. it.why) }
     ensures stays { OnErr result (journal.new.items ≡ journal.old.items) }
     ensures handed_back { IfErr result (λ it. it.step ≡ step) }
@@ -148,7 +148,7 @@ pub(crate) fn write(
 fn hear(
     alloc: Global,
     machine: &mut Machine,
-    journal: &mut Pages<Entry>,
+    journal: &mut Pages<JournalEntry>,
     tenant: u64,
     piece: &Bytes,
 ) -> Result<usize, Refusal>
@@ -156,7 +156,7 @@ fn hear(
     ensures written { Writes (does tenant (hears piece.now)) machine.old journal.old.items
         journal.new.items result messages_heard }
     ensures one { AddsOne journal.old.items journal.new.items result }
-    ensures declined { Declines (does tenant (hears piece.now)) machine.old journal.old.items result
+    ensures declined { DeclinesEntry (does tenant (hears piece.now)) machine.old journal.old.items result
         (λ why. why) }
     ensures stays { OnErr result (journal.new.items ≡ journal.old.items) }
 {
@@ -179,7 +179,7 @@ fn hear(
 fn begin(
     alloc: Global,
     machine: &mut Machine,
-    journal: &mut Pages<Entry>,
+    journal: &mut Pages<JournalEntry>,
     tenant: u64,
     actor: Actor,
     beside: &mut Beside,
@@ -188,7 +188,7 @@ fn begin(
     ensures written { Writes (does tenant (starts actor)) machine.old journal.old.items
         journal.new.items result start_answer_view }
     ensures one { AddsOne journal.old.items journal.new.items result }
-    ensures declined { Declines (does tenant (starts actor)) machine.old journal.old.items result
+    ensures declined { DeclinesEntry (does tenant (starts actor)) machine.old journal.old.items result
         (λ why. why) }
     ensures stays { OnErr result (journal.new.items ≡ journal.old.items) }
 {
@@ -211,7 +211,7 @@ fn begin(
 fn answer_ask(
     alloc: Global,
     machine: &mut Machine,
-    journal: &mut Pages<Entry>,
+    journal: &mut Pages<JournalEntry>,
     tenant: u64,
     actor: Actor,
     ask: &Ask,
@@ -221,7 +221,7 @@ fn answer_ask(
     ensures written { Writes (does tenant (asks_for actor (ask_view ask.now))) machine.old
         journal.old.items journal.new.items result ask_answer_view }
     ensures one { AddsOne journal.old.items journal.new.items result }
-    ensures declined { Declines (does tenant (asks_for actor (ask_view ask.now))) machine.old
+    ensures declined { DeclinesEntry (does tenant (asks_for actor (ask_view ask.now))) machine.old
         journal.old.items result (λ why. why) }
     ensures stays { OnErr result (journal.new.items ≡ journal.old.items) }
 {
@@ -244,7 +244,7 @@ fn answer_ask(
 fn end(
     alloc: Global,
     machine: &mut Machine,
-    journal: &mut Pages<Entry>,
+    journal: &mut Pages<JournalEntry>,
     tenant: u64,
     actor: Actor,
     ending: Box<Ending>,
@@ -258,7 +258,7 @@ fn end(
     ensures written { Writes (does tenant (ends actor (ending_view ending.value))) machine.old
         journal.old.items journal.new.items result end_answer_view }
     ensures one { AddsOne journal.old.items journal.new.items result }
-    ensures declined { Declines (does tenant (ends actor (ending_view ending.value))) machine.old
+    ensures declined { DeclinesEntry (does tenant (ends actor (ending_view ending.value))) machine.old
         journal.old.items result (λ it. it.why) }
     ensures stays { OnErr result (journal.new.items ≡ journal.old.items) }
     ensures handed_back { IfErr result (λ it. it.step ≡ Step.Ended tenant actor ending) }
@@ -318,12 +318,12 @@ fn refused(why: Refusal, tenant: u64, actor: Actor, ending: Box<Ending>) -> Refu
 }
 
 // A tenant's oldest reply is taken out.
-fn drain(machine: &mut Machine, journal: &mut Pages<Entry>, tenant: u64) -> Result<Vec<u8>, Refusal>
+fn drain(machine: &mut Machine, journal: &mut Pages<JournalEntry>, tenant: u64) -> Result<Vec<u8>, Refusal>
     ensures keeps { KeepsOn machine.old journal.old.items machine.new journal.new.items }
     ensures written { Writes (does tenant drains) machine.old journal.old.items journal.new.items
         result (λ reply. reply_given reply.items) }
     ensures one { AddsOne journal.old.items journal.new.items result }
-    ensures declined { Declines (does tenant drains) machine.old journal.old.items result
+    ensures declined { DeclinesEntry (does tenant drains) machine.old journal.old.items result
         (λ why. why) }
     ensures stays { OnErr result (journal.new.items ≡ journal.old.items) }
 {
@@ -332,7 +332,7 @@ fn drain(machine: &mut Machine, journal: &mut Pages<Entry>, tenant: u64) -> Resu
     };
     match machine.drain_copied(tenant) {
         Ok(replies) => {
-            journal.put(Entry::Drained(tenant, replies.noted));
+            journal.put(JournalEntry::Drained(tenant, replies.noted));
             Ok(replies.given)
         }
         Err(why) => Err(why),
@@ -343,7 +343,7 @@ fn drain(machine: &mut Machine, journal: &mut Pages<Entry>, tenant: u64) -> Resu
 fn bye(
     alloc: Global,
     machine: &mut Machine,
-    journal: &mut Pages<Entry>,
+    journal: &mut Pages<JournalEntry>,
     tenant: u64,
     beside: &mut Beside,
 ) -> Result<(), Refusal>
@@ -351,7 +351,7 @@ fn bye(
     ensures written { Writes (closes tenant) machine.old journal.old.items journal.new.items result
         (λ _. tenant_gone) }
     ensures one { AddsOne journal.old.items journal.new.items result }
-    ensures declined { Declines (closes tenant) machine.old journal.old.items result (λ why. why) }
+    ensures declined { DeclinesEntry (closes tenant) machine.old journal.old.items result (λ why. why) }
     ensures stays { OnErr result (journal.new.items ≡ journal.old.items) }
 {
     let Ok(()) = journal.make_room() else {

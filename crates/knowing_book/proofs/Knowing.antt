@@ -18,15 +18,15 @@ use Rattle.server_rules.specs.Tenant.{seat_of}
 use Rattle.server_rules.specs.declared.actor.Actor.{Actor}
 use Rattle.journal_book.specs.Forms.{form_told_from, form_told}
 use Rattle.journal_book.specs.Journal.{EntryData}
-use Rattle.journal_book.specs.Standing.{entry}
+use Rattle.journal_book.specs.Standing.{entry_of}
 use Rattle.journal_book.specs.View.{entries}
-use Rattle.journal_book.specs.declared.entry.Entry.{Entry}
+use Rattle.journal_book.specs.declared.entry.JournalEntry.{JournalEntry}
 use Rattle.knowing_book.specs.Keys.{actor_number, actor_key, deed_key, step_key, entry_key, is_under}
 use Rattle.knowing_book.specs.Keys.{last_by}
 use Rattle.knowing_book.specs.Knowledge.{Tells, Knows, Shares}
 use Rattle.knowing_book.proofs.Entries.{prefix-entries}
 
--- what an entry tells of an actor's form
+-- what an entry_of tells of an actor's form
 abbrev pub tell : ℕ → Actor → Option Run → EntryData → Option Run
 tell t a form e = form_by_step t a e.step e.answer form
 
@@ -70,7 +70,7 @@ module _ (t : ℕ) (a : Actor) where
   by-tests u b told form true false same one apart = refl
   by-tests u b told form false d same one apart = refl
 
-  pub quiet : (form : Option Run) (e : EntryData) → is_under (actor_key t a) e ≡ false
+  pub state : (form : Option Run) (e : EntryData) → is_under (actor_key t a) e ≡ false
       → tell t a form e ≡ form
   quiet form e apart = by e.step apart
     where
@@ -104,7 +104,7 @@ module _ (t : ℕ) (a : Actor) where
   kept-last journal lasts (Some n) are is = are (actor_key t a) n (sym is)
 
   -- the number that is kept is the journal's, so the form that is known is the one of which it tells
-  pub end-told : (journal : List EntryData) (whole known : Option (List Entry)) (kept : Option ℕ)
+  pub end-told : (journal : List EntryData) (whole known : Option (List JournalEntry)) (kept : Option ℕ)
       (last : ℕ) (form : Run) → IfSome whole (λ es. entries es ≡ journal)
       → Knows known t a last form → IfSome kept (λ n. n ≡ last_by t a journal)
       → Shares whole known kept last → form_told t a journal ≡ Some form
@@ -128,7 +128,7 @@ module _ (t : ℕ) (a : Actor) where
       ∙ tells.0
 
   pub later-told : (journal before : List EntryData) (e : EntryData)
-      (whole known : Option (List Entry)) (kept : Option ℕ) (last : ℕ) (form now : Run)
+      (whole known : Option (List JournalEntry)) (kept : Option ℕ) (last : ℕ) (form now : Run)
       → journal ≡ before ++ e ∷ [] → IfSome kept (λ n. n ≡ last_by t a before)
       → Knows known t a last form → form_by_step t a e.step e.answer (Some form) ≡ Some now
       → IfSome whole (λ es. entries es ≡ journal) → Shares whole known kept last
@@ -153,7 +153,7 @@ module _ (t : ℕ) (a : Actor) where
       ∙ ap (λ x. tell t a x e) (sym (told-same t a None (entries f)) ∙ tells.0)
       ∙ made
 
-  pub fact-known : (journal : List EntryData) (whole : Option (List Entry)) (last : ℕ) (form : Run)
+  pub fact-known : (journal : List EntryData) (whole : Option (List JournalEntry)) (last : ℕ) (form : Run)
       → IfSome whole (λ es. entries es ≡ journal) → form_told t a journal ≡ Some form
       → last ≡ last_by t a journal → Knows whole t a last form
   fact-known journal None last form is told n = tt
@@ -166,11 +166,11 @@ module _ (t : ℕ) (a : Actor) where
       ∙ ap (λ b. if true && b then x else y) (self-test (seat_of a))
 
   pub begun-told : (before : List EntryData) (job : JobData)
-      → form_told t a (before ++ entry (does t (starts a)) (form_begun job) ∷ [])
+      → form_told t a (before ++ entry_of (does t (starts a)) (form_begun job) ∷ [])
       ≡ Some (record { job = job; trace = [] })
   begun-told before job =
-      told-same t a None (before ++ entry (does t (starts a)) (form_begun job) ∷ [])
-      ∙ told-snoc (tell t a) None before (entry (does t (starts a)) (form_begun job))
+      told-same t a None (before ++ entry_of (does t (starts a)) (form_begun job) ∷ [])
+      ∙ told-snoc (tell t a) None before (entry_of (does t (starts a)) (form_begun job))
       ∙ own-tests _ _
 
   pub asked-told : (ask : AskData) (told : AnswerData) (form : Run)
@@ -178,8 +178,8 @@ module _ (t : ℕ) (a : Actor) where
       ≡ Some (run_with (exchange_from ask told) form)
   asked-told ask told form = own-tests _ _
 
--- what is known of a journal, as the journal with its new entry has it
-pub known-before : (known : Option (List Entry)) (before after : List EntryData) (e : EntryData)
+-- what is known of a journal, as the journal with its new entry_of has it
+pub known-before : (known : Option (List JournalEntry)) (before after : List EntryData) (e : EntryData)
     → IfSome known (λ es. entries es ≡ before) → after ≡ before ++ e ∷ []
     → IfSome known (λ es. after ≡ entries es ++ e ∷ [])
 known-before None before after e is now = tt

@@ -16,7 +16,7 @@ ghost use Rattle.tenant_parts.specs.Aside.{printed_in};
 ghost use Rattle.journal_book.specs.Beside.{PrintsStep};
 ghost use Rattle.journal_book.specs.Forms.{form_of, form_told, EndsAsTold};
 ghost use Rattle.journal_book.specs.Journal.{EntryData};
-ghost use Rattle.journal_book.specs.Standing.{IsAdmitted, IsDeclined, IsMade, RefusesTenant, entry};
+ghost use Rattle.journal_book.specs.Standing.{IsAdmitted, IsDeclined, IsMade, RefusesTenant, entry_of};
 ghost use Rattle.journal_book.specs.View.{entries, seat_with};
 ghost use Rattle.knowing_book.specs.Keys.{entry_key, last_by};
 ghost use Rattle.knowing_book.specs.Knowledge.{Knows, Shares};
@@ -26,7 +26,7 @@ use crate::forms::{Answered, Begun, Fact, Finish, Question};
 use crate::keys::{actor_key, step_key};
 use crate::known::{Known, Length, Naming, Opened};
 use crate::lasts::Lasts;
-use journal_book::{Beside, Book, Entry, Places, Receipt, Seat};
+use journal_book::{Beside, Book, JournalEntry, Places, Receipt, Seat};
 use paged_list::Pages;
 use repl_core::{Refused, Step, StepAnswer};
 use server_rules::{Actor, Refusal};
@@ -37,8 +37,8 @@ use std::sync::ledger::Ledger;
 /// A book, and what whoever holds it knows of its journal for good. Contracts see the book.
 pub struct KnowingBook<L: Ledger, N: Naming> {
     book: Book<L>,
-    whole: Length<Entry, N>,
-    known: Option<Known<Entry, N>>,
+    whole: Length<JournalEntry, N>,
+    known: Option<Known<JournalEntry, N>>,
     lasts: Lasts,
 }
 
@@ -57,7 +57,7 @@ impl<L: Ledger, N: Naming> Model for KnowingBook<L, N> {
     ghost use Rattle.std.specs.Prelude.{◌≡◌, IfSome};
     ghost use Rattle.std.specs.Coded.{codes};
     ghost use Rattle.knowing_book.specs.Lasts.{AreLasts};
-    ghost use Rattle.journal_book.specs.contracts.entry.Entry as kept;
+    ghost use Rattle.journal_book.specs.contracts.entry.JournalEntry as kept;
     ghost use Rattle.journal_book.specs.View.{BookData, entries};
     ghost use Rattle.knowing_book.specs.Keys.{entry_key};
 
@@ -87,7 +87,7 @@ pub struct Unended<N: Naming> {
 
 impl<L: Ledger, N: Naming> KnowingBook<L, N> {
     /// A book whose journal is empty, under a history of its own.
-    pub fn new(alloc: Global, book: Book<L>, opened: Opened<Entry>) -> KnowingBook<L, N>
+    pub fn new(alloc: Global, book: Book<L>, opened: Opened<JournalEntry>) -> KnowingBook<L, N>
         requires empty { book.journal ≡ [] }
         requires name { opened.seen.book ≡ N.book }
         ensures { result ≡ book }
@@ -203,7 +203,7 @@ impl<L: Ledger, N: Naming> KnowingBook<L, N> {
     // The form that began by the last entry, if one did.
     fn begun(&self, tenant: u64, actor: Actor, answer: StepAnswer) -> Option<Begun<N>>
         requires { (before : List EntryData) × (entries self.now.journal ≡ before
-            ++ entry (does tenant (starts actor)) (step_answer_view answer) ∷ []) }
+            ++ entry_of (does tenant (starts actor)) (step_answer_view answer) ∷ []) }
         ensures { IfSome result (λ begun. (begun.actor ≡ actor)
             × (step_answer_view answer ≡ form_begun (job_view begun.job))) }
     {
@@ -433,9 +433,9 @@ fn follow_key(lasts: &mut Lasts, key: u64, is_end: bool, place: u64)
 
 // The entry that was just written is added to what is known; or nothing is known any more.
 fn add<N: Naming>(
-    whole: &Length<Entry, N>,
-    known: &mut Option<Known<Entry, N>>,
-    journal: &Pages<Entry>,
+    whole: &Length<JournalEntry, N>,
+    known: &mut Option<Known<JournalEntry, N>>,
+    journal: &Pages<JournalEntry>,
     place: u64,
 )
     requires { IfSome known.old (λ es. place ≡ length es) }
@@ -450,11 +450,11 @@ fn add<N: Naming>(
 }
 
 fn longer<N: Naming>(
-    whole: &Length<Entry, N>,
-    known: Known<Entry, N>,
-    journal: &Pages<Entry>,
+    whole: &Length<JournalEntry, N>,
+    known: Known<JournalEntry, N>,
+    journal: &Pages<JournalEntry>,
     place: u64,
-) -> Option<Known<Entry, N>>
+) -> Option<Known<JournalEntry, N>>
     requires { place ≡ length known }
     ensures { (e : EntryData) → entries journal.now.items ≡ entries known ++ e ∷ []
         → IfSome result (λ es. entries es ≡ entries journal.now.items) }
@@ -474,7 +474,7 @@ fn longer<N: Naming>(
     }
 }
 
-fn again<N: Naming>(known: &Option<Known<Entry, N>>) -> Option<Known<Entry, N>>
+fn again<N: Naming>(known: &Option<Known<JournalEntry, N>>) -> Option<Known<JournalEntry, N>>
     ensures { result ≡ known.now }
 {
     match known {
@@ -485,8 +485,8 @@ fn again<N: Naming>(known: &Option<Known<Entry, N>>) -> Option<Known<Entry, N>>
 
 // Whether both are known, and the number that is kept of an actor is the one that its worker knows.
 fn shares<N: Naming>(
-    whole: &Option<Known<Entry, N>>,
-    known: &Option<Known<Entry, N>>,
+    whole: &Option<Known<JournalEntry, N>>,
+    known: &Option<Known<JournalEntry, N>>,
     kept: Option<u64>,
     last: u64,
 ) -> bool

@@ -8,7 +8,7 @@ ghost use Rattle.knowing_book.specs.Reached.{IsReached};
 ghost use Rattle.knowing_book.specs.View.{begun_run, run_of, told_run};
 
 use crate::known::{Known, Naming};
-use journal_book::Entry;
+use journal_book::JournalEntry;
 use repl_asks::{Answer, Ask, End, Finished, Job};
 use repl_values::print_into;
 use repl_walker::{Ending, Progress, Walk, start};
@@ -24,7 +24,7 @@ pub(crate) struct Fact<N: Naming> {
     pub(crate) tenant: u64,
     pub(crate) actor: Actor,
     pub(crate) last: u64,
-    pub(crate) known: Option<Known<Entry, N>>,
+    pub(crate) known: Option<Known<JournalEntry, N>>,
     // whether its value is told at its end
     pub(crate) tells: bool,
 }

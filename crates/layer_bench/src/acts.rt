@@ -3,7 +3,7 @@
 ghost use Rattle.std.specs.Prelude.{◌≡◌, []};
 
 use bytes::Bytes;
-use journal_book::{Beside, Book, Entry, Places};
+use journal_book::{Beside, Book, JournalEntry, Places};
 use knowing_book::{Answered, Begun, Finish, KnowingBook, Naming, Opened, Question, Stage};
 use repl_core::{Config, RETRIES, STEPS, SharedText, Step};
 use server_rules::Actor;
@@ -81,7 +81,7 @@ fn run_over<L: Ledger, N: Naming, R: Clock>(
     clock: &R,
     alloc: Global,
     book: Book<L>,
-    opened: Opened<Entry>,
+    opened: Opened<JournalEntry>,
     stream: &[u8],
 ) -> io::Result<Longest>
     requires empty { book.journal ≡ [] }

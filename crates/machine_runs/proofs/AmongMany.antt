@@ -11,7 +11,7 @@ use Rattle.server_rules.specs.Machine.World.{opens, does, opened_world, opened_t
 use Rattle.server_rules.specs.Machine.World.{with_tenant, ended_as}
 use Rattle.server_rules.specs.DeedResult.{DeedResult}
 use Rattle.server_rules.specs.LoneTurns as lone
-use Rattle.server_rules.specs.LoneTurns.{LoneTurn, Lone, hears, goes, drains, deed_of, lone_step}
+use Rattle.server_rules.specs.LoneTurns.{LoneTurn, LoneTenant, hears, goes, drains, deed_of, lone_step}
 use Rattle.server_rules.specs.LoneTurns.{lone_ended, lone_or, lone_after, lone_served, reply_taken}
 use Rattle.server_rules.specs.LoneTurns.{opened_lone}
 use Rattle.repl_core.specs.Standing.{open_in, store_in}
@@ -24,23 +24,23 @@ use Rattle.machine_runs.specs.AmongMany.{turn_of}
 use Rattle.machine_runs.specs.Inside.Standing.{tenant_data_of}
 use Rattle.machine_runs.proofs.Behind.{deeded_in, turn-so, seen-behind}
 
-record IsFirst (w : World) (l : Lone) : Type 0 where
+record IsFirst (w : World) (l : LoneTenant) : Type 0 where
   pub there : open_in 0 w ≡ Some (tenant_data_of l)
   pub store : l.store ≡ store_in w.around 0 l.store.mine
 
 -- A turn
 
-turn-deed : (g : Ground) (w : World) (l : Lone) (turn : LoneTurn) → IsFirst w l
+turn-deed : (g : Ground) (w : World) (l : LoneTenant) (turn : LoneTurn) → IsFirst w l
     → turn_step g w (turn_of turn) ≡ step g w (does 0 (deed_of g l turn))
 turn-deed g w l (hears piece) is = refl
 turn-deed g w l (goes a) is = honest_deed-turn g w 0 a (tenant_data_of l) is.there
 turn-deed g w l drains is = refl
 
-record TurnsAlike (g : Ground) (w : World) (l : Lone) (turn : LoneTurn) : Type 0 where
+record TurnsAlike (g : Ground) (w : World) (l : LoneTenant) (turn : LoneTurn) : Type 0 where
   pub gives : bytes_given (turn_step g w (turn_of turn)) ≡ reply_taken (lone_step g l turn)
   pub first : IsFirst (world_after g w (turn_of turn)) (lone_after g l turn)
 
-alike-so : (g : Ground) (w after : World) (l it : Lone) (turn : LoneTurn)
+alike-so : (g : Ground) (w after : World) (l it : LoneTenant) (turn : LoneTurn)
     → bytes_given (turn_step g w (turn_of turn)) ≡ reply_taken (lone_step g l turn)
     → world_after g w (turn_of turn) ≡ after → lone_after g l turn ≡ it → IsFirst after it
     → TurnsAlike g w l turn
@@ -50,7 +50,7 @@ alike-so g w after l it turn gives world tenant is = record {
       (subst (IsFirst after) (sym tenant) is);
 }
 
-alike-turn : (g : Ground) (w : World) (l : Lone) (turn : LoneTurn) → IsFirst w l
+alike-turn : (g : Ground) (w : World) (l : LoneTenant) (turn : LoneTurn) → IsFirst w l
     → TurnsAlike g w l turn
 alike-turn g w l turn is = by e.outcome refl
   where
@@ -73,9 +73,9 @@ alike-turn g w l turn is = by e.outcome refl
         alike-so g w w l l turn (ap bytes_given all ∙ sym (ap reply_taken it))
         (ap (world_or w) all) (ap (lone_or l) it) is
     by (leaves q x) out =
-        let part : TenantData = record { quiet = q; mine = e.store.mine } in
+        let part : TenantData = record { state = q; mine = e.store.mine } in
         let after : World = with_tenant 0 (Some part) e.store.around w in
-        let behind : Lone = record { quiet = q; store = e.store } in
+        let behind : LoneTenant = record { state = q; store = e.store } in
         let all : turn_step g w (turn_of turn) ≡ accepted after x =
         many ∙ ap (ended_as w 0 e.store) out in
         let it : lone_step g l turn ≡ lone.accepted behind (bytes_in x) =
@@ -84,7 +84,7 @@ alike-turn g w l turn is = by e.outcome refl
         (ap (world_or w) all) (ap (lone_or l) it) (record {
           there = open-mine w e.store.around 0 (Some part) (tenant_data_of l) is.there;
           store = seen-behind after.around e.store refl
-              (deed_result-tenant g (store_in w.around 0 l.store.mine) l.quiet d);
+              (deed_result-tenant g (store_in w.around 0 l.store.mine) l.state d);
         })
 
 -- All turns
@@ -94,7 +94,7 @@ whose-first (hears piece) = refl
 whose-first (goes a) = refl
 whose-first drains = refl
 
-served-alike : (g : Ground) (w : World) (l : Lone) (turns : List LoneTurn) → IsFirst w l
+served-alike : (g : Ground) (w : World) (l : LoneTenant) (turns : List LoneTurn) → IsFirst w l
     → serve g w (map turn_of turns) 0 ≡ lone_served g l turns
 served-alike g w l [] is = refl
 served-alike g w l (turn ∷ turns) is =

@@ -8,12 +8,12 @@ use Rattle.repl_asks.specs.InteractionTree.{InteractionTree, finished, asks}
 use Rattle.repl_asks.specs.Leading.{tree_after}
 use Rattle.ref_table.specs.Numbered.{part_under}
 use Rattle.server_rules.specs.Ground.{Ground}
-use Rattle.server_rules.specs.Request.{Hand, Run}
-use Rattle.server_rules.specs.Tenant.{ActorData, seat_of, Quiet}
+use Rattle.server_rules.specs.Request.{WorkInHand, Run}
+use Rattle.server_rules.specs.Tenant.{ActorData, seat_of, TenantState}
 use Rattle.server_rules.specs.Plan.{asks_for}
 use Rattle.server_rules.specs.Honest.{honest_at, honest_of, honest_in, honest_by, honest_deed}
 use Rattle.server_rules.specs.Machine.Turns as rules
-use Rattle.server_rules.specs.Machine.Turns.{goes, step_of, quiet_of, world_after}
+use Rattle.server_rules.specs.Machine.Turns.{goes, step_of, tenant_state_of, world_after}
 use Rattle.server_rules.specs.Machine.World.{World, Step, opened_world, run}
 use Rattle.server_rules.specs.declared.actor.Actor.{Actor}
 use Rattle.repl_core.specs.Driving.{world_after_all}
@@ -26,7 +26,7 @@ use Rattle.machine_runs.specs.declared.turn.Turn.{Turn}
 
 -- Where a turn lets an actor go on, and that is an ask, it is an ask of this actor.
 
-asks-itself : (g : Ground) (b a : Actor) (ask : AskData) (q : Option (Option Quiet))
+asks-itself : (g : Ground) (b a : Actor) (ask : AskData) (q : Option (Option TenantState))
     → honest_deed g b q ≡ asks_for a ask → b ≡ a
 asks-itself g b a ask None e = absurd (cc)
 asks-itself g b a ask (Some None) e = absurd (cc)
@@ -40,7 +40,7 @@ asks-itself g b a ask (Some (Some q)) e = by (part_under (seat_of b) q.actors) e
     of None e = absurd (cc)
     of (Some form) e = at form (tree_after (g.evaluation form.job) form.trace) e
 
-    held : (o : Option Hand) → honest_in g b o ≡ asks_for a ask → b ≡ a
+    held : (o : Option WorkInHand) → honest_in g b o ≡ asks_for a ask → b ≡ a
     held None e = absurd (cc)
     held (Some h) e = of h.running e
 
@@ -54,8 +54,8 @@ module _ (g : Ground) (t : ℕ) (a : Actor) where
   turn-honest w (Turn.Bytes u piece) ask e ok = absurd (cc)
   turn-honest w (Turn.Go u b) ask e ok =
       let whose : u ≡ t = cc in
-      let said : honest_deed g b (option_map quiet_of (part_under u w.tenants)) ≡ asks_for a ask = cc in
-      let who : b ≡ a = asks-itself g b a ask (option_map quiet_of (part_under u w.tenants)) said in
+      let said : honest_deed g b (option_map tenant_state_of (part_under u w.tenants)) ≡ asks_for a ask = cc in
+      let who : b ≡ a = asks-itself g b a ask (option_map tenant_state_of (part_under u w.tenants)) said in
       let same : goes t a ≡ goes u b = cc in
       ap (step_of g w) same
   turn-honest w (Turn.Drain u) ask e ok = absurd (cc)

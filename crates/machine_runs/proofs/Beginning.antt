@@ -2,10 +2,10 @@
 use Rattle.std.proofs.Common.{ℕ, List, [], refl, Option}
 use Rattle.std.proofs.KnownBytes.{Appends-nil, Consumes-nil}
 use Rattle.server_rules.specs.Ground.{Ground}
-use Rattle.server_rules.specs.LoneTurns.{Lone}
+use Rattle.server_rules.specs.LoneTurns.{LoneTenant}
 use Rattle.nrepl_pipe.specs.Served.{Moves, BeginsToServe}
 
-pub moves-none : (g : Ground) (l : Lone) (unread held : Option (List ℕ))
+pub moves-none : (g : Ground) (l : LoneTenant) (unread held : Option (List ℕ))
     → Moves unread unread held held (λ read written. BeginsToServe g l read written)
 moves-none g l unread held = (
   [],

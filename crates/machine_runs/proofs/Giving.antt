@@ -4,24 +4,24 @@ use Rattle.server_rules.specs.Ground.{Ground}
 use Rattle.ref_table.specs.Numbered.{part_under}
 use Rattle.server_rules.specs.Plan.{Deed, StepAnswer, Outcome, refuses, leaves}
 use Rattle.server_rules.specs.Honest.{honest_deed}
-use Rattle.server_rules.specs.Machine.Turns.{goes, turn_step, quiet_of}
+use Rattle.server_rules.specs.Machine.Turns.{goes, turn_step, tenant_state_of}
 use Rattle.server_rules.specs.Plan.{bytes_in}
 use Rattle.server_rules.specs.Machine.World.{TenantData, World, accepted, refused, ended_as}
 use Rattle.server_rules.specs.declared.actor.Actor.{Actor}
 use Rattle.server_rules.specs.declared.refusal.Refusal.{Refusal}
 use Rattle.server_rules.specs.DeedResult.{DeedResult}
 use Rattle.server_rules.specs.LoneTurns as turns
-use Rattle.server_rules.specs.LoneTurns.{Lone}
+use Rattle.server_rules.specs.LoneTurns.{LoneTenant}
 use Rattle.nrepl_pipe.proofs.Going.{go-gives}
 use Rattle.repl_core.specs.Standing.{open_in, store_in}
 use Rattle.repl_core.proofs.Honest.{honest_deed-turn}
 use Rattle.repl_core.proofs.Worlds.{deed_of, step-deed, step-none}
 
-abbrev lone_of : World → ℕ → TenantData → Lone
-lone_of w t kept = record { quiet = kept.quiet; store = store_in w.around t kept.mine }
+abbrev lone_of : World → ℕ → TenantData → LoneTenant
+lone_of w t kept = record { state = kept.state; store = store_in w.around t kept.mine }
 
 abbrev honest_of : Ground → Actor → TenantData → Deed
-honest_of g a kept = honest_deed g a (Some (Some kept.quiet))
+honest_of g a kept = honest_deed g a (Some (Some kept.state))
 
 turn-as : (g : Ground) (w : World) (t : ℕ) (a : Actor) (kept : TenantData)
     → turns.lone_step g (lone_of w t kept) (turns.goes a)
@@ -46,7 +46,7 @@ goes-give g w after t a answer is = by (open_in t w) refl
     by : (it : Option TenantData) → open_in t w ≡ it → bytes_in answer ≡ []
     by None none =
         let never : refused Refusal.NoSuchTenant ≡ accepted after answer =
-        sym (step-none g w t (honest_deed g a (option_map quiet_of (part_under t w.tenants))) none) ∙ is in
+        sym (step-none g w t (honest_deed g a (option_map tenant_state_of (part_under t w.tenants))) none) ∙ is in
         absurd (cc)
     by (Some kept) there =
         let e = deed_of g w t kept (honest_of g a kept) in

@@ -5,7 +5,7 @@ use Rattle.std.proofs.lemmas.Bool.{eq-eqb}
 use Rattle.server_rules.specs.Ground.{Ground}
 use Rattle.ref_table.specs.Numbered.{entry, part_under}
 use Rattle.server_rules.specs.Plan.{Deed, StepAnswer, tenant_opened}
-use Rattle.server_rules.specs.Tenant.{unoccupied, seat_of, opened_quiet}
+use Rattle.server_rules.specs.Tenant.{unoccupied, seat_of, opened_state}
 use Rattle.server_rules.specs.Machine.Turns.{whose_step}
 use Rattle.server_rules.specs.Machine.World as worlds
 use Rattle.server_rules.specs.Machine.World.{TenantData, World, Stepped, accepted, refused, step, world_or}
@@ -32,7 +32,7 @@ others-open g w after s answer u is apart =
     (sym (ap (λ it. part_under u (world_or w it).tenants) is) ∙ step-other g w s u apart)
 
 -- an opened tenant runs no form
-opened-runs : (g : Ground) (a : Actor) → running_in a (opened_quiet g) ≡ None
+opened-runs : (g : Ground) (a : Actor) → running_in a (opened_state g) ≡ None
 opened-runs g a = by (seat_of a == 0) (seat_of a == 1)
   where
     by : (b c : Bool)

@@ -5,7 +5,7 @@ use Rattle.std.specs.Io.KnownBytes.{Consumes}
 use Rattle.std.proofs.KnownBytes.{Appends-nil, Appends-trans}
 use Rattle.bencode_wire.specs.Spelling.{spellings_joined}
 use Rattle.server_rules.specs.Ground.{Ground}
-use Rattle.server_rules.specs.LoneTurns.{Lone, LoneTurn, hears, lone_after, lone_run, lone_served}
+use Rattle.server_rules.specs.LoneTurns.{LoneTenant, LoneTurn, hears, lone_after, lone_run, lone_served}
 use Rattle.nrepl_pipe.specs.Schedule.{AreRounds}
 use Rattle.nrepl_pipe.specs.Served.{Moves, BeginsToServe}
 use Rattle.nrepl_pipe.specs.Inside.Parts.{IsPiece, LosesPiece, Begins, BeginsRounds}
@@ -17,7 +17,7 @@ use Rattle.nrepl_pipe.proofs.Serving.{lone_served-heard}
 use Rattle.nrepl_pipe.proofs.Ending.{schedule-all, consumes-all}
 
 -- nothing more was read
-begins-all : (g : Ground) (Old : Lone → Type 0) (q : Lone)
+begins-all : (g : Ground) (Old : LoneTenant → Type 0) (q : LoneTenant)
     (unread left less held holds : Option (List ℕ)) (on : Serving g Old q unread left held holds)
     → Consumes left less []
     → Moves unread less held holds (λ read written. BeginsToServe g q read written)
@@ -37,7 +37,7 @@ begins-all g Old q unread left less held holds on consumes = (
   },
 )
 
-begins-last : (g : Ground) (Old : Lone → Type 0) (q : Lone)
+begins-last : (g : Ground) (Old : LoneTenant → Type 0) (q : LoneTenant)
     (unread left less held holds grown : Option (List ℕ)) (piece : List ℕ) (rounds : List LoneTurn)
     (on : Serving g Old q unread left held holds) → IsPiece piece → Consumes left less piece
     → AreRounds g (lone_after g (lone_run g q on.turns) (hears piece)) rounds
@@ -65,7 +65,7 @@ begins-last g Old q unread left less held holds grown piece rounds on is consume
     )
 
 -- a piece was read, and nothing was written behind it
-pub begins-unheard : (g : Ground) (Old : Lone → Type 0) (q : Lone)
+pub begins-unheard : (g : Ground) (Old : LoneTenant → Type 0) (q : LoneTenant)
     (unread left less held holds : Option (List ℕ)) (piece : List ℕ)
     (on : Serving g Old q unread left held holds) → IsPiece piece → Consumes left less piece
     → Moves unread less held holds (λ read written. BeginsToServe g q read written)
@@ -81,7 +81,7 @@ begins-unheard g Old q unread left less held holds piece on is consumes =
     })
 
 -- a part of what the rounds behind a piece serve was written
-pub begins-rounds : (g : Ground) (Old Mid : Lone → Type 0) (q : Lone)
+pub begins-rounds : (g : Ground) (Old Mid : LoneTenant → Type 0) (q : LoneTenant)
     (unread left less held holds grown : Option (List ℕ)) (piece : List ℕ)
     (on : Serving g Old q unread left held holds) → IsPiece piece → Consumes left less piece
     → TakesIn g Mid (lone_run g q on.turns) piece
@@ -97,7 +97,7 @@ begins-rounds g Old Mid q unread left less held holds grown piece on is consumes
     })
 
 -- a read that failed
-loses-by : (g : Ground) (Old : Lone → Type 0) (q : Lone)
+loses-by : (g : Ground) (Old : LoneTenant → Type 0) (q : LoneTenant)
     (unread left less held holds : Option (List ℕ)) (bytes : List ℕ)
     (on : Serving g Old q unread left held holds) → (bytes ≡ []) ⊎ IsPiece bytes
     → Consumes left less bytes
@@ -107,7 +107,7 @@ loses-by g Old q unread left less held holds bytes on (inl none) consumes =
 loses-by g Old q unread left less held holds bytes on (inr is) consumes =
     begins-unheard g Old q unread left less held holds bytes on is consumes
 
-pub begins-lost : (g : Ground) (Old : Lone → Type 0) (q : Lone)
+pub begins-lost : (g : Ground) (Old : LoneTenant → Type 0) (q : LoneTenant)
     (unread left less held holds : Option (List ℕ)) (on : Serving g Old q unread left held holds)
     → LosesPiece left less
     → Moves unread less held holds (λ read written. BeginsToServe g q read written)

@@ -6,7 +6,7 @@ use Rattle.std.proofs.KnownBytes.{Appends-nil, Appends-trans, Consumes-trans}
 use Rattle.bencode_wire.specs.Spelling.{spellings_joined}
 use Rattle.server_rules.specs.Ground.{Ground}
 use Rattle.server_rules.specs.declared.refusal.Refusal.{Refusal}
-use Rattle.server_rules.specs.LoneTurns.{Lone, LoneTurn, hears, refused, lone_step, lone_or}
+use Rattle.server_rules.specs.LoneTurns.{LoneTenant, LoneTurn, hears, refused, lone_step, lone_or}
 use Rattle.server_rules.specs.LoneTurns.{reply_taken, lone_after, lone_run, lone_served}
 use Rattle.nrepl_pipe.specs.Schedule.{round, AreRounds, last, MeetsWorn, IsSchedule, stream_end}
 use Rattle.nrepl_pipe.specs.Schedule.{IsEnd}
@@ -21,7 +21,7 @@ use Rattle.nrepl_pipe.proofs.Serving.{Serving, pieces-append, spellings_joined-a
 use Rattle.nrepl_pipe.proofs.Serving.{consumes-more, lone_served-heard}
 
 -- the schedule of the pieces so far
-pub schedule-all : (g : Ground) (Old : Lone → Type 0) (q : Lone)
+pub schedule-all : (g : Ground) (Old : LoneTenant → Type 0) (q : LoneTenant)
     (unread left held holds : Option (List ℕ)) (on : Serving g Old q unread left held holds)
     → IsSchedule g q on.pieces on.turns
 schedule-all g Old q unread left held holds on =
@@ -29,7 +29,7 @@ schedule-all g Old q unread left held holds on =
     (subst (IsSchedule g q (on.pieces ++ [])) (append-nil on.turns) (on.closes [] [] refl))
 
 -- all is written that the pieces so far serve
-pub serves-so_far : (g : Ground) (Old : Lone → Type 0) (q : Lone)
+pub serves-so_far : (g : Ground) (Old : LoneTenant → Type 0) (q : LoneTenant)
     (unread left held holds : Option (List ℕ)) (on : Serving g Old q unread left held holds)
     → ServesSoFar g q (spellings_joined on.pieces) (lone_served g q on.turns)
 serves-so_far g Old q unread left held holds on = record {
@@ -49,10 +49,10 @@ consumes-all unread left less read first none =
     (Consumes-trans unread left less read [] first none)
 
 -- at the end of the input
-pub serves-all : (g : Ground) (Old : Lone → Type 0) (q : Lone)
+pub serves-all : (g : Ground) (Old : LoneTenant → Type 0) (q : LoneTenant)
     (unread left less held holds : Option (List ℕ)) (end : PipeEnd)
     (on : Serving g Old q unread left held holds) → Consumes left less []
-    → end ≡ stream_end (g.readings.stream (lone_run g q on.turns).quiet.heard).ending
+    → end ≡ stream_end (g.readings.stream (lone_run g q on.turns).state.heard).ending
     → Moves unread less held holds (λ read written. Serves g q read written end)
 unfolding serves-so_far
 serves-all g Old q unread left less held holds end on consumes is = (
@@ -70,15 +70,15 @@ serves-all g Old q unread left less held holds end on consumes is = (
 )
 
 -- how a last piece with its rounds ends it
-abbrev pub EndsWith : Ground → Lone → List ℕ → List LoneTurn → PipeEnd → Type 0
+abbrev pub EndsWith : Ground → LoneTenant → List ℕ → List LoneTurn → PipeEnd → Type 0
 EndsWith g now piece turns end =
     (MeetsWorn g now turns × (end ≡ PipeEnd.Worn))
     ⊎ ((MeetsWorn g now turns → ⊥)
-    × (end ≡ stream_end (g.readings.stream (now.quiet.heard ++ piece)).ending))
+    × (end ≡ stream_end (g.readings.stream (now.state.heard ++ piece)).ending))
 
-ends-with : (g : Ground) (q : Lone) (turns more : List LoneTurn) (read piece all : List ℕ)
+ends-with : (g : Ground) (q : LoneTenant) (turns more : List LoneTurn) (read piece all : List ℕ)
     (end : PipeEnd) → (MeetsWorn g q turns → ⊥) → all ≡ read ++ piece
-    → (lone_run g q turns).quiet.heard ≡ read → EndsWith g (lone_run g q turns) piece more end
+    → (lone_run g q turns).state.heard ≡ read → EndsWith g (lone_run g q turns) piece more end
     → IsEnd g q (turns ++ more) all end
 ends-with g q turns more read piece all end never same heard (inl worn) =
     inl (meets-behind g q turns more worn.0, worn.1)
@@ -91,7 +91,7 @@ ends-with g q turns more read piece all end never same heard (inr ended) =
     )
 
 -- behind a last piece
-serves-last : (g : Ground) (Old : Lone → Type 0) (q : Lone)
+serves-last : (g : Ground) (Old : LoneTenant → Type 0) (q : LoneTenant)
     (unread left less held holds grown : Option (List ℕ)) (piece : List ℕ) (rounds : List LoneTurn)
     (end : PipeEnd) (on : Serving g Old q unread left held holds) → IsPiece piece
     → Consumes left less piece → AreRounds g (lone_after g (lone_run g q on.turns) (hears piece)) rounds
@@ -122,7 +122,7 @@ serves-last g Old q unread left less held holds grown piece rounds end on is con
     )
 
 -- the piece, or its rounds, met the end of the steps or of the stream
-pub serves-rounds : (g : Ground) (Old Mid New : Lone → Type 0) (q : Lone)
+pub serves-rounds : (g : Ground) (Old Mid New : LoneTenant → Type 0) (q : LoneTenant)
     (unread left less held holds grown : Option (List ℕ)) (piece : List ℕ) (end : Rounds)
     (told : PipeEnd) (on : Serving g Old q unread left held holds) → IsPiece piece
     → Consumes left less piece → TakesIn g Mid (lone_run g q on.turns) piece
@@ -136,7 +136,7 @@ serves-rounds g Old Mid New q unread left less held holds grown piece end told o
     made.2.appends) ends
 
 -- a piece was refused at the end of the steps
-pub serves-worn : (g : Ground) (Old : Lone → Type 0) (q : Lone)
+pub serves-worn : (g : Ground) (Old : LoneTenant → Type 0) (q : LoneTenant)
     (unread left less held holds : Option (List ℕ)) (piece : List ℕ)
     (on : Serving g Old q unread left held holds) → IsPiece piece → Consumes left less piece
     → lone_step g (lone_run g q on.turns) (hears piece) ≡ refused Refusal.Worn
@@ -146,8 +146,8 @@ serves-worn g Old q unread left less held holds piece on is consumes worn =
     let v = lone_after g now (hears piece) in
     let same : v ≡ now = ap (lone_or now) worn in
     let used = (refused-worn g now piece Refusal.Worn (on.no_fault, on.empty) worn).1 in
-    let none : v.quiet.replies ≡ [] = ap (λ (u : Lone). u.quiet.replies) same ∙ on.empty in
-    let stops = worn-round g v (ap (λ (u : Lone). u.quiet.steps == 0) same ∙ used) none in
+    let none : v.state.replies ≡ [] = ap (λ (u : LoneTenant). u.state.replies) same ∙ on.empty in
+    let stops = worn-round g v (ap (λ (u : LoneTenant). u.state.steps == 0) same ∙ used) none in
     let nothing : lone_served g now (hears piece ∷ round g v) ≡ [] =
     lone_served-heard g now piece (round g v) (ap reply_taken worn) ∙ stops.1 in
     serves-last g Old q unread left less held holds holds piece (round g v) PipeEnd.Worn on is

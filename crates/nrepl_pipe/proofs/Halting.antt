@@ -3,7 +3,7 @@ use Rattle.std.proofs.Common.{◌≡◌, ℕ, List, [], ◌++◌, Bool, false, r
 use Rattle.std.proofs.Common.{Option}
 use Rattle.std.proofs.KnownBytes.{Appends-nil, Appends-trans}
 use Rattle.server_rules.specs.Ground.{Ground}
-use Rattle.server_rules.specs.LoneTurns.{Lone, lone_run, lone_served}
+use Rattle.server_rules.specs.LoneTurns.{LoneTenant, lone_run, lone_served}
 use Rattle.nrepl_pipe.specs.Schedule.{drain_all, round}
 use Rattle.nrepl_pipe.specs.Inside.Parts.{Begins, BeginsRounds}
 use Rattle.nrepl_pipe.proofs.Turns.{lone_served-append}
@@ -12,7 +12,7 @@ use Rattle.nrepl_pipe.proofs.Lasting.{rounds-exist, rounds-front}
 use Rattle.nrepl_pipe.proofs.Rounding.{RoundsOn}
 
 -- nothing was written
-pub round-stopped : (g : Ground) (q : Lone) (held : Option (List ℕ))
+pub round-stopped : (g : Ground) (q : LoneTenant) (held : Option (List ℕ))
     → Begins g q (round g q) held held
 round-stopped g q held = record {
   written = [];
@@ -22,8 +22,8 @@ round-stopped g q held = record {
 }
 
 -- a part of the replies was written
-pub round-broken : (g : Ground) (q : Lone) (held holds : Option (List ℕ))
-    → Begins g (gone g q) (drain_all (gone g q).quiet.replies) held holds
+pub round-broken : (g : Ground) (q : LoneTenant) (held holds : Option (List ℕ))
+    → Begins g (gone g q) (drain_all (gone g q).state.replies) held holds
     → Begins g q (round g q) held holds
 round-broken g q held holds drained = record {
   written = drained.written;
@@ -33,7 +33,7 @@ round-broken g q held holds drained = record {
 }
 
 -- a part of the first round was written
-pub rounds-begun : (g : Ground) (q : Lone) (held holds : Option (List ℕ))
+pub rounds-begun : (g : Ground) (q : LoneTenant) (held holds : Option (List ℕ))
     → Begins g q (round g q) held holds → BeginsRounds g q held holds
 rounds-begun g q held holds begun =
     let all = rounds-exist g q in
@@ -53,7 +53,7 @@ rounds-begun g q held holds begun =
     )
 
 -- a part of the next round was written
-pub rounds-broken : (g : Ground) (Old : Lone → Type 0) (q : Lone) (is_last is_worn : Bool)
+pub rounds-broken : (g : Ground) (Old : LoneTenant → Type 0) (q : LoneTenant) (is_last is_worn : Bool)
     (held holds grown : Option (List ℕ)) (on : RoundsOn g Old q is_last is_worn held holds)
     → is_last ≡ false → Begins g (lone_run g q on.turns) (round g (lone_run g q on.turns)) holds grown
     → BeginsRounds g q held grown

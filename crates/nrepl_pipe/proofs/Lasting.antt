@@ -4,7 +4,7 @@ use Rattle.std.proofs.Common.{◌==◌, true, refl, sym, ap, ◌∙◌, subst, a
 use Rattle.server_rules.specs.Ground.{Ground}
 use Rattle.server_rules.specs.declared.actor.Actor.{Actor}
 use Rattle.server_rules.specs.declared.refusal.Refusal.{Refusal}
-use Rattle.server_rules.specs.LoneTurns.{Lone, LoneTurn, goes, LoneStepped, accepted, refused}
+use Rattle.server_rules.specs.LoneTurns.{LoneTenant, LoneTurn, goes, LoneStepped, accepted, refused}
 use Rattle.server_rules.specs.LoneTurns.{lone_step, lone_or, lone_after, lone_run, lone_served}
 use Rattle.server_rules.specs.LoneTurns.{actors_of}
 use Rattle.nrepl_pipe.specs.Schedule.{go_each, drain_all, round, Rests, AllRest, IsLast, AreRounds}
@@ -36,7 +36,7 @@ rests-or (refused why) = by (held-or why) where
   by (inl held) = inr (λ other. other held)
   by (inr other) = inl other
 
-all_rest-or : (g : Ground) (q : Lone) (turns : List LoneTurn)
+all_rest-or : (g : Ground) (q : LoneTenant) (turns : List LoneTurn)
     → AllRest g q turns ⊎ (AllRest g q turns → ⊥)
 all_rest-or g q [] = inl tt
 all_rest-or g q (t ∷ turns) =
@@ -49,50 +49,50 @@ all_rest-or g q (t ∷ turns) =
       by (inr other) later = inr (λ all. other all.0)
 
 -- where no reply waits, actors of whom one goes on use up a step
-uses-step : (g : Ground) (q : Lone) (actors : List Actor) → q.quiet.replies ≡ []
-    → (AllRest g q (go_each actors) → ⊥) → (lone_run g q (go_each actors)).quiet.steps < q.quiet.steps
+uses-step : (g : Ground) (q : LoneTenant) (actors : List Actor) → q.state.replies ≡ []
+    → (AllRest g q (go_each actors) → ⊥) → (lone_run g q (go_each actors)).state.steps < q.state.steps
 uses-step g q [] none on = absurd (on tt)
 uses-step g q (a ∷ actors) none on =
     by (lone_step g q (goes a)) refl (go-steps g q a) (λ behind. uses-step g q actors none behind) where
       by : (s : LoneStepped) → lone_step g q (goes a) ≡ s → StepsSo q s
-          → ((AllRest g q (go_each actors) → ⊥) → (lone_run g q (go_each actors)).quiet.steps < q.quiet.steps)
-          → (lone_run g q (go_each (a ∷ actors))).quiet.steps < q.quiet.steps
+          → ((AllRest g q (go_each actors) → ⊥) → (lone_run g q (go_each actors)).state.steps < q.state.steps)
+          → (lone_run g q (go_each (a ∷ actors))).state.steps < q.state.steps
       by (accepted new bytes) is so behind =
           let fewer = gos-steps g (lone_after g q (goes a)) actors in
-          let same : (lone_after g q (goes a)).quiet.steps ≡ new.quiet.steps = ap (λ s. (lone_or q s).quiet.steps) is in
+          let same : (lone_after g q (goes a)).state.steps ≡ new.state.steps = ap (λ s. (lone_or q s).state.steps) is in
           let one = so.0 in omega arith
       by (refused why) is so behind = refused-by (held-or why) where
         same : lone_after g q (goes a) ≡ q
         same = ap (lone_or q) is
 
         refused-by : (why ≡ Refusal.Held) ⊎ (why ≢ Refusal.Held)
-            → (lone_run g q (go_each (a ∷ actors))).quiet.steps < q.quiet.steps
+            → (lone_run g q (go_each (a ∷ actors))).state.steps < q.state.steps
         refused-by (inl held) = absurd (held-waits q (so held) none)
         refused-by (inr other) =
-            subst (λ v. (lone_run g v (go_each actors)).quiet.steps < q.quiet.steps) (sym same)
+            subst (λ v. (lone_run g v (go_each actors)).state.steps < q.state.steps) (sym same)
             (behind (λ all. on (
               subst Rests (sym is) other,
               subst (λ v. AllRest g v (go_each actors)) (sym same) all,
             )))
 
-pub round-uses : (g : Ground) (q : Lone) → q.quiet.replies ≡ [] → (IsLast g q → ⊥)
-    → (lone_run g q (round g q)).quiet.steps < q.quiet.steps
+pub round-uses : (g : Ground) (q : LoneTenant) → q.state.replies ≡ [] → (IsLast g q → ⊥)
+    → (lone_run g q (round g q)).state.steps < q.state.steps
 round-uses g q none on =
-    let same : (lone_run g q (round g q)).quiet.steps ≡ (gone g q).quiet.steps =
-    ap (λ (v : Lone). v.quiet.steps) (lone_run-round g q) in
+    let same : (lone_run g q (round g q)).state.steps ≡ (gone g q).state.steps =
+    ap (λ (v : LoneTenant). v.state.steps) (lone_run-round g q) in
     let fewer = uses-step g q (actors_of q) none on in omega arith
 
 -- Each tenant has rounds
 
-abbrev pub HasRounds : Ground → Lone → Type 0
+abbrev pub HasRounds : Ground → LoneTenant → Type 0
 HasRounds g q = (turns : List LoneTurn) × AreRounds g q turns
 
-has-more : (g : Ground) (q : Lone) → (IsLast g q → ⊥) → HasRounds g (lone_run g q (round g q))
+has-more : (g : Ground) (q : LoneTenant) → (IsLast g q → ⊥) → HasRounds g (lone_run g q (round g q))
     → HasRounds g q
 has-more g q on rounds = (round g q ++ rounds.0, more q rounds.0 on rounds.1)
 
 -- where no reply waits each round that goes on uses up a step
-quiet-rounds : (g : Ground) (n : ℕ) (q : Lone) → q.quiet.steps ≤ n → q.quiet.replies ≡ [] → HasRounds g q
+quiet-rounds : (g : Ground) (n : ℕ) (q : LoneTenant) → q.state.steps ≤ n → q.state.replies ≡ [] → HasRounds g q
 quiet-rounds g zero q few none = by (all_rest-or g q (go_each (actors_of q))) where
   by : IsLast g q ⊎ (IsLast g q → ⊥) → HasRounds g q
   by (inl is) = (round g q, last q is)
@@ -101,44 +101,44 @@ quiet-rounds g (suc n) q few none =
     by (all_rest-or g q (go_each (actors_of q)))
     (λ fewer. quiet-rounds g n (lone_run g q (round g q)) fewer (round-empty g q)) where
       by : IsLast g q ⊎ (IsLast g q → ⊥)
-          → ((lone_run g q (round g q)).quiet.steps ≤ n → HasRounds g (lone_run g q (round g q))) → HasRounds g q
+          → ((lone_run g q (round g q)).state.steps ≤ n → HasRounds g (lone_run g q (round g q))) → HasRounds g q
       by (inl is) behind = (round g q, last q is)
       by (inr on) behind =
           let fewer = round-uses g q none on in has-more g q on (behind (omega arith))
 
-pub rounds-exist : (g : Ground) (q : Lone) → HasRounds g q
+pub rounds-exist : (g : Ground) (q : LoneTenant) → HasRounds g q
 rounds-exist g q = by (all_rest-or g q (go_each (actors_of q))) where
   by : IsLast g q ⊎ (IsLast g q → ⊥) → HasRounds g q
   by (inl is) = (round g q, last q is)
   by (inr on) = has-more g q on
-      (quiet-rounds g (lone_run g q (round g q)).quiet.steps (lone_run g q (round g q)) (le_refl _)
+      (quiet-rounds g (lone_run g q (round g q)).state.steps (lone_run g q (round g q)) (le_refl _)
       (round-empty g q))
 
 -- What rounds keep
 
-pub rounds-empty : (g : Ground) (q : Lone) (turns : List LoneTurn) → AreRounds g q turns
-    → (lone_run g q turns).quiet.replies ≡ []
+pub rounds-empty : (g : Ground) (q : LoneTenant) (turns : List LoneTurn) → AreRounds g q turns
+    → (lone_run g q turns).state.replies ≡ []
 rounds-empty g q turns (last v end) = round-empty g v
 rounds-empty g q turns (more v behind on rounds) =
-    ap (λ (u : Lone). u.quiet.replies) (lone_run-append g v (round g v) behind)
+    ap (λ (u : LoneTenant). u.state.replies) (lone_run-append g v (round g v) behind)
     ∙ rounds-empty g (lone_run g v (round g v)) behind rounds
 
-pub rounds-heard : (g : Ground) (q : Lone) (turns : List LoneTurn) → AreRounds g q turns
-    → (lone_run g q turns).quiet.heard ≡ q.quiet.heard
+pub rounds-heard : (g : Ground) (q : LoneTenant) (turns : List LoneTurn) → AreRounds g q turns
+    → (lone_run g q turns).state.heard ≡ q.state.heard
 rounds-heard g q turns (last v end) = round-heard g v
 rounds-heard g q turns (more v behind on rounds) =
-    ap (λ (u : Lone). u.quiet.heard) (lone_run-append g v (round g v) behind)
+    ap (λ (u : LoneTenant). u.state.heard) (lone_run-append g v (round g v) behind)
     ∙ rounds-heard g (lone_run g v (round g v)) behind rounds ∙ round-heard g v
 
 -- rounds begin with the first
-pub rounds-front : (g : Ground) (q : Lone) (turns : List LoneTurn) → AreRounds g q turns
+pub rounds-front : (g : Ground) (q : LoneTenant) (turns : List LoneTurn) → AreRounds g q turns
     → (behind : List LoneTurn) × (turns ≡ round g q ++ behind)
 rounds-front g q turns (last v end) = ([], sym (append-nil (round g v)))
 rounds-front g q turns (more v behind on rounds) = (behind, refl)
 
 -- Where the steps are used up no actor goes on
 
-gos-worn : (g : Ground) (q : Lone) (actors : List Actor) → (q.quiet.steps == 0) ≡ true
+gos-worn : (g : Ground) (q : LoneTenant) (actors : List Actor) → (q.state.steps == 0) ≡ true
     → (AllRest g q (go_each actors)) × (lone_run g q (go_each actors) ≡ q)
 gos-worn g q [] none = (tt, refl)
 gos-worn g q (a ∷ actors) none =
@@ -153,11 +153,11 @@ gos-worn g q (a ∷ actors) none =
     )
 
 -- and a round serves what waited
-pub worn-round : (g : Ground) (q : Lone) → (q.quiet.steps == 0) ≡ true → q.quiet.replies ≡ []
+pub worn-round : (g : Ground) (q : LoneTenant) → (q.state.steps == 0) ≡ true → q.state.replies ≡ []
     → IsLast g q × (lone_served g q (round g q) ≡ [])
 worn-round g q none empty =
     let worn = gos-worn g q (actors_of q) none in (
       worn.0,
-      lone_served-round g q ∙ ap (λ v. lone_served g v (drain_all v.quiet.replies)) worn.1
+      lone_served-round g q ∙ ap (λ v. lone_served g v (drain_all v.state.replies)) worn.1
           ∙ ap (λ xs. lone_served g q (drain_all xs)) empty,
     )

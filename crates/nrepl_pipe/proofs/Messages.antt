@@ -11,29 +11,29 @@ use Rattle.ref_table.specs.Numbered.{part_under}
 use Rattle.server_rules.specs.Ground.{Ground}
 use Rattle.server_rules.specs.Readings.{Readings, AreRight, message_limit}
 use Rattle.server_rules.specs.Request.{Waiting, ProgramText, code, file}
-use Rattle.server_rules.specs.Tenant.{ActorData, seat_of, Quiet}
+use Rattle.server_rules.specs.Tenant.{ActorData, seat_of, TenantState}
 use Rattle.server_rules.specs.Hearing.{fault_in, stream_fault, with_messages, new_messages}
 use Rattle.server_rules.specs.Hearing.{taken_in}
 use Rattle.server_rules.specs.Operating.{named_sessions, closed_by, asker, queued_for, with_queued}
 use Rattle.server_rules.specs.Operating.{after_operation, with_asked, with_message}
 use Rattle.server_rules.specs.declared.actor.Actor.{Actor}
 
-closed-heard : (origin : OriginData) (n : ℕ) (q : Quiet) (there : Option ActorData)
+closed-heard : (origin : OriginData) (n : ℕ) (q : TenantState) (there : Option ActorData)
     → (closed_by origin n q there).heard ≡ q.heard
 closed-heard origin n q None = refl
 closed-heard origin n q (Some actor) = refl
 
-queued-heard : (a : Actor) (w : Waiting) (q : Quiet) (there : Option ActorData)
+queued-heard : (a : Actor) (w : Waiting) (q : TenantState) (there : Option ActorData)
     → (queued_for a w q there).heard ≡ q.heard
 queued-heard a w q None = refl
 queued-heard a w q (Some actor) = refl
 
-text-heard : (a : Actor) (origin : OriginData) (text : ProgramText) (q : Quiet)
+text-heard : (a : Actor) (origin : OriginData) (text : ProgramText) (q : TenantState)
     → (with_queued a origin text q).heard ≡ q.heard
 text-heard a origin text q =
     queued-heard a (record { origin = origin; text = text }) q (part_under (seat_of a) q.actors)
 
-after_operation-heard : (g : Ground) (t : ℕ) (origin : OriginData) (o : OperationData) (q : Quiet)
+after_operation-heard : (g : Ground) (t : ℕ) (origin : OriginData) (o : OperationData) (q : TenantState)
     → (after_operation g t origin o q).heard ≡ q.heard
 after_operation-heard g t origin (operations.clone original) q = refl
 after_operation-heard g t origin (operations.close n) q =
@@ -45,12 +45,12 @@ after_operation-heard g t origin (operations.eval session text ns) q =
 after_operation-heard g t origin (operations.load_file session text) q =
     text-heard (asker session) origin (file text) q
 
-operation_or_reply-heard : (g : Ground) (t : ℕ) (asked : Result AskedData ReplyData) (q : Quiet)
+operation_or_reply-heard : (g : Ground) (t : ℕ) (asked : Result AskedData ReplyData) (q : TenantState)
     → (with_asked g t asked q).heard ≡ q.heard
 operation_or_reply-heard g t (Ok asked) q = after_operation-heard g t asked.origin asked.operation q
 operation_or_reply-heard g t (Err refusal) q = refl
 
-message-heard : (g : Ground) (t : ℕ) (m : wire.Tree) (q : Quiet)
+message-heard : (g : Ground) (t : ℕ) (m : wire.Tree) (q : TenantState)
     → (with_message g t m q).heard ≡ q.heard
 unfolding with_message
 message-heard g t (wire.dictionary fields) q =
@@ -59,13 +59,13 @@ message-heard g t (wire.integer n) q = refl
 message-heard g t (wire.string bytes) q = refl
 message-heard g t (wire.list ts) q = refl
 
-messages-heard : (g : Ground) (t : ℕ) (ms : List wire.Tree) (q : Quiet)
+messages-heard : (g : Ground) (t : ℕ) (ms : List wire.Tree) (q : TenantState)
     → (with_messages g t ms q).heard ≡ q.heard
 messages-heard g t [] q = refl
 messages-heard g t (m ∷ ms) q =
     messages-heard g t ms (with_message g t m q) ∙ message-heard g t m q
 
-pub taken_in-heard : (g : Ground) (t : ℕ) (piece : List ℕ) (q : Quiet)
+pub taken_in-heard : (g : Ground) (t : ℕ) (piece : List ℕ) (q : TenantState)
     → (taken_in g t piece q).heard ≡ q.heard ++ piece
 unfolding taken_in
 taken_in-heard g t piece q =

@@ -2,12 +2,12 @@
 use Rattle.std.proofs.Common.{ℕ, List, Option, Result, Ok, Err}
 use Rattle.std.specs.Prelude.{IsErr, OnOk}
 use Rattle.server_rules.specs.Ground.{Ground}
-use Rattle.server_rules.specs.LoneTurns.{Lone}
+use Rattle.server_rules.specs.LoneTurns.{LoneTenant}
 use Rattle.nrepl_pipe.specs.Served.{Moves, BeginsToServe, IsPipeOutcome}
 use Rattle.nrepl_pipe.specs.declared.ends.PipeEnd.{PipeEnd}
 use Rattle.nrepl_pipe.specs.declared.ends.PipeError.{PipeError}
 
-pub outcome-err : (g : Ground) (q : Lone) (unread left held holds : Option (List ℕ))
+pub outcome-err : (g : Ground) (q : LoneTenant) (unread left held holds : Option (List ℕ))
     (result : Result PipeEnd PipeError) → IsErr result
     → Moves unread left held holds (λ read written. BeginsToServe g q read written)
     → IsPipeOutcome g q unread left held holds result

@@ -9,7 +9,7 @@ use Rattle.server_rules.specs.Tenant.{seat_of}
 use Rattle.ref_table.specs.Numbered.{part_under}
 use Rattle.server_rules.specs.declared.actor.Actor.{Actor}
 use Rattle.server_rules.specs.declared.refusal.Refusal.{Refusal}
-use Rattle.server_rules.specs.LoneTurns.{Lone, goes, LoneStepped, accepted, refused}
+use Rattle.server_rules.specs.LoneTurns.{LoneTenant, goes, LoneStepped, accepted, refused}
 use Rattle.server_rules.specs.LoneTurns.{lone_step, lone_or, lone_after, lone_run, actors_of}
 use Rattle.server_rules.specs.Inside.Rounds.{is_some_busy, is_busy_at, IsEnough}
 use Rattle.nrepl_pipe.specs.Schedule.{go_each, Rests, AllRest, MeetsWorn}
@@ -18,12 +18,12 @@ use Rattle.nrepl_pipe.specs.declared.actors.Round.{Round}
 use Rattle.nrepl_pipe.proofs.Going.{StepsSo, go-steps, go-others, IsPassed, idle-passed}
 
 -- the turns of some actors come to what the turns of all come to
-pub record ComesToSame (g : Ground) (l : Lone) (some all : List Actor) : Type 0 where
+pub record ComesToSame (g : Ground) (l : LoneTenant) (some all : List Actor) : Type 0 where
   pub run : lone_run g l (go_each some) ≡ lone_run g l (go_each all)
   pub rest : AllRest g l (go_each some) ↔ AllRest g l (go_each all)
   pub worn : MeetsWorn g l (go_each some) ↔ MeetsWorn g l (go_each all)
 
-same-none : (g : Ground) (l : Lone) (all : List Actor) → ComesToSame g l all all
+same-none : (g : Ground) (l : LoneTenant) (all : List Actor) → ComesToSame g l all all
 same-none g l all = record {
   run = refl;
   rest = (λ r. r, λ r. r);
@@ -31,14 +31,14 @@ same-none g l all = record {
 }
 
 -- an actor that goes on among some as among all
-same-more : (g : Ground) (l : Lone) (a : Actor) (some all : List Actor)
+same-more : (g : Ground) (l : LoneTenant) (a : Actor) (some all : List Actor)
     → ComesToSame g (lone_after g l (goes a)) some all → ComesToSame g l (a ∷ some) (a ∷ all)
 same-more g l a some all behind = record {
   run = behind.run;
   rest = (λ r. (r.0, behind.rest.0 r.1), λ r. (r.0, behind.rest.1 r.1));
   worn = (to, from);
 } where
-  v : Lone
+  v : LoneTenant
   v = lone_after g l (goes a)
 
   to : MeetsWorn g l (go_each (a ∷ some)) → MeetsWorn g l (go_each (a ∷ all))
@@ -50,7 +50,7 @@ same-more g l a some all behind = record {
   from (inr later) = inr (behind.worn.1 later)
 
 -- an actor that is passed over
-same-passed : (g : Ground) (l : Lone) (a : Actor) (some all : List Actor) → IsPassed g l a
+same-passed : (g : Ground) (l : LoneTenant) (a : Actor) (some all : List Actor) → IsPassed g l a
     → ComesToSame g l some all → ComesToSame g l some (a ∷ all)
 same-passed g l a some all passed behind = record {
   run = behind.run ∙ sym (ap (λ v. lone_run g v (go_each all)) stays);
@@ -81,17 +81,17 @@ some-left n zero room = absurd (omega arith)
 some-left n (suc steps) room = ne_eqb (suc steps) 0 (λ e. cc)
 
 -- a turn uses up one step at most
-one-step : (l : Lone) (s : LoneStepped) → StepsSo l s
-    → l.quiet.steps ≤ (lone_or l s).quiet.steps + 1
+one-step : (l : LoneTenant) (s : LoneStepped) → StepsSo l s
+    → l.state.steps ≤ (lone_or l s).state.steps + 1
 one-step l (accepted new bytes) so = let one = so.0 in omega arith
 one-step l (refused why) so = omega arith
 
 -- the test tells of each name the same, and of those that it fails nobody has anything to do
-record Passes (test : Actor → Bool) (l : Lone) : Type 0 where
+record Passes (test : Actor → Bool) (l : LoneTenant) : Type 0 where
   same : (a b : Actor) → seat_of a ≡ seat_of b → test a ≡ test b
   idle : (a : Actor) → test a ≡ false → is_busy_at l a ≡ false
 
-passes-behind : (g : Ground) (test : Actor → Bool) (l : Lone) (a : Actor) → test a ≡ true
+passes-behind : (g : Ground) (test : Actor → Bool) (l : LoneTenant) (a : Actor) → test a ≡ true
     → Passes test l → Passes test (lone_after g l (goes a))
 passes-behind g test l a busy p = record {
   same = p.same;
@@ -102,17 +102,17 @@ passes-behind g test l a busy p = record {
       ∙ p.idle b is;
 }
 
-passing : (g : Ground) (test : Actor → Bool) (l : Lone) (all : List Actor) → Passes test l
-    → length (filter test all) < l.quiet.steps → ComesToSame g l (filter test all) all
+passing : (g : Ground) (test : Actor → Bool) (l : LoneTenant) (all : List Actor) → Passes test l
+    → length (filter test all) < l.state.steps → ComesToSame g l (filter test all) all
 passing g test l [] p room = same-none g l []
 passing g test l (a ∷ all) p room =
     by (test a) refl room (λ v. passing g test v all) where
       Behind : Type 0
-      Behind = (v : Lone) → Passes test v → length (filter test all) < v.quiet.steps
+      Behind = (v : LoneTenant) → Passes test v → length (filter test all) < v.state.steps
           → ComesToSame g v (filter test all) all
 
       by : (busy : Bool) → test a ≡ busy
-          → length (if busy then a ∷ filter test all else filter test all) < l.quiet.steps → Behind
+          → length (if busy then a ∷ filter test all else filter test all) < l.state.steps → Behind
           → ComesToSame g l (if busy then a ∷ filter test all else filter test all) (a ∷ all)
       by true is room behind =
           let one = one-step l (lone_step g l (goes a)) (go-steps g l a) in
@@ -120,24 +120,24 @@ passing g test l (a ∷ all) p room =
           (behind (lone_after g l (goes a)) (passes-behind g test l a is p) (omega arith))
       by false is room behind =
           same-passed g l a (filter test all) all
-          (idle-passed g l a (p.idle a is) (some-left _ l.quiet.steps room)) (behind l p room)
+          (idle-passed g l a (p.idle a is) (some-left _ l.state.steps room)) (behind l p room)
 
 -- a round of these does what a round of all does
-pub enough-same : (g : Ground) (l : Lone) (actors : List Actor) → IsEnough l actors
+pub enough-same : (g : Ground) (l : LoneTenant) (actors : List Actor) → IsEnough l actors
     → ComesToSame g l actors (actors_of l)
 enough-same g l actors (inl is) =
     subst (λ some. ComesToSame g l some (actors_of l)) (sym is) (same-none g l (actors_of l))
 enough-same g l actors (inr (is, room)) =
     subst (λ some. ComesToSame g l some (actors_of l)) (sym is)
     (passing g (is_busy_at l) l (actors_of l) passes
-    (subst (λ some. length some < l.quiet.steps) is room)) where
+    (subst (λ some. length some < l.state.steps) is room)) where
       passes : Passes (is_busy_at l) l
       passes = record {
-        same = λ a b e. ap (λ n. (n == 0) || is_some_busy (part_under n l.quiet.actors)) e;
+        same = λ a b e. ap (λ n. (n == 0) || is_some_busy (part_under n l.state.actors)) e;
         idle = λ a is. is;
       }
 
-pub round-same : (g : Ground) (l : Lone) (some all : List Actor) (told : Round)
+pub round-same : (g : Ground) (l : LoneTenant) (some all : List Actor) (told : Round)
     → ComesToSame g l some all → IsRound told g l (go_each some) → IsRound told g l (go_each all)
 round-same g l some all told same so = record {
   is_last = (λ is. same.rest.0 (so.is_last.0 is), λ r. so.is_last.1 (same.rest.1 r));

@@ -3,7 +3,7 @@ use Rattle.std.proofs.Common.{ℕ, List, [], ◌∷◌, ◌++◌, refl, sym, ap,
 use Rattle.std.proofs.Common.{append-nil, Option, None, Some}
 use Rattle.bencode_wire.specs.Spelling.{spellings_joined}
 use Rattle.server_rules.specs.Ground.{Ground}
-use Rattle.server_rules.specs.LoneTurns.{Lone, lone_served}
+use Rattle.server_rules.specs.LoneTurns.{LoneTenant, lone_served}
 use Rattle.nrepl_pipe.specs.Reads.{ReadAt, ReadsSince, IsPrompt, ArePrompt, ReadsPromptly}
 use Rattle.nrepl_pipe.specs.Reads.{IsPassedOn, ArePassedOn, ReadsPassedOn}
 use Rattle.nrepl_pipe.specs.declared.stream.TheConstants.{PIECE}
@@ -23,19 +23,19 @@ since-more (Some b) (Some m) None first second p q = absurd q
 since-more (Some b) (Some m) (Some n) first second p q =
     q ∙ ap (λ (rs : List ReadAt). rs ++ second) p ∙ append_assoc b first second
 
-prompt-more : (g : Ground) (l : Lone) (unread held : Option (List ℕ)) (rs : List ReadAt)
+prompt-more : (g : Ground) (l : LoneTenant) (unread held : Option (List ℕ)) (rs : List ReadAt)
     (r : ReadAt) → ArePrompt g l unread held rs → IsPrompt g l unread held r
     → ArePrompt g l unread held (rs ++ r ∷ [])
 prompt-more g l unread held [] r are is = (is, tt)
 prompt-more g l unread held (first ∷ rs) r are is =
     (are.0, prompt-more g l unread held rs r are.1 is)
 
-pub reads-none : (g : Ground) (l : Lone) (unread held : Option (List ℕ))
+pub reads-none : (g : Ground) (l : LoneTenant) (unread held : Option (List ℕ))
     (reads : Option (List ReadAt)) → ReadsPromptly g l unread held reads reads
 reads-none g l unread held reads = ([], since-none reads, tt)
 
 -- one more read
-pub reads-more : (g : Ground) (Old : Lone → Type 0) (q : Lone)
+pub reads-more : (g : Ground) (Old : LoneTenant → Type 0) (q : LoneTenant)
     (unread left held holds passes : Option (List ℕ))
     (before between now : Option (List ReadAt))
     → Serving g Old q unread left held holds → ReadsPromptly g q unread held before between

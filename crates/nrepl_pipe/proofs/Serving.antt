@@ -8,7 +8,7 @@ use Rattle.server_rules.specs.Ground.{Ground}
 use Rattle.server_rules.specs.Hearing.{stream_fault}
 use Rattle.server_rules.specs.declared.refusal.Refusal.{Refusal}
 use Rattle.server_rules.specs.Grounds.{IsRight}
-use Rattle.server_rules.specs.LoneTurns.{Lone, LoneTurn, hears, refused, lone_step, reply_taken}
+use Rattle.server_rules.specs.LoneTurns.{LoneTenant, LoneTurn, hears, refused, lone_step, reply_taken}
 use Rattle.server_rules.specs.LoneTurns.{lone_after, lone_run, lone_served}
 use Rattle.nrepl_pipe.specs.Schedule.{ArePieces, AreRounds, MeetsWorn, IsSchedule}
 use Rattle.nrepl_pipe.specs.Inside.Fresh.{IsFresh}
@@ -33,7 +33,7 @@ spellings_joined-append (p ∷ pieces) piece =
     ap (λ (bytes : List ℕ). p ++ bytes) (spellings_joined-append pieces piece)
     ∙ sym (append_assoc p (spellings_joined pieces) piece)
 
-pub schedule-last : (g : Ground) (now : Lone) (piece : List ℕ) (rounds : List LoneTurn)
+pub schedule-last : (g : Ground) (now : LoneTenant) (piece : List ℕ) (rounds : List LoneTurn)
     → AreRounds g (lone_after g now (hears piece)) rounds
     → IsSchedule g now (piece ∷ []) (hears piece ∷ rounds)
 schedule-last g now piece rounds are = (
@@ -47,7 +47,7 @@ schedule-last g now piece rounds are = (
 
 -- So far
 
-pub record Serving (g : Ground) (Stands : Lone → Type 0) (q : Lone)
+pub record Serving (g : Ground) (Stands : LoneTenant → Type 0) (q : LoneTenant)
     (unread left held holds : Option (List ℕ)) : Type 0 where
   pub pieces : List (List ℕ)
   pub turns : List LoneTurn
@@ -56,15 +56,15 @@ pub record Serving (g : Ground) (Stands : Lone → Type 0) (q : Lone)
   pub appends : Appends held holds (lone_served g q turns)
   pub stands : Stands (lone_run g q turns)
   pub never_worn : MeetsWorn g q turns → ⊥
-  pub no_fault : stream_fault g.readings (lone_run g q turns).quiet.heard ≡ None
-  pub heard : (lone_run g q turns).quiet.heard ≡ spellings_joined pieces
-  pub empty : (lone_run g q turns).quiet.replies ≡ []
+  pub no_fault : stream_fault g.readings (lone_run g q turns).state.heard ≡ None
+  pub heard : (lone_run g q turns).state.heard ≡ spellings_joined pieces
+  pub empty : (lone_run g q turns).state.replies ≡ []
   -- where the rest comes to from here, all comes to from the start
   pub closes : (more : List (List ℕ)) (behind : List LoneTurn)
       → IsSchedule g (lone_run g q turns) more behind
       → IsSchedule g q (pieces ++ more) (turns ++ behind)
 
-pub serving-none : (g : Ground) (Stands : Lone → Type 0) (q : Lone)
+pub serving-none : (g : Ground) (Stands : LoneTenant → Type 0) (q : LoneTenant)
     (unread held : Option (List ℕ)) → IsRight g → Stands q → IsFresh q
     → Serving g Stands q unread unread held held
 serving-none g Stands q unread held right stands fresh = record {
@@ -75,7 +75,7 @@ serving-none g Stands q unread held right stands fresh = record {
   appends = Appends-nil held;
   stands = stands;
   never_worn = λ never. never;
-  no_fault = fresh-clean g.readings q.quiet.heard right.readings fresh.0;
+  no_fault = fresh-clean g.readings q.state.heard right.readings fresh.0;
   heard = fresh.0;
   empty = fresh.1;
   closes = λ more behind schedule. schedule;
@@ -90,25 +90,25 @@ consumes-more unread left less pieces piece first second =
     subst (Consumes unread less) (sym (spellings_joined-append pieces piece))
     (Consumes-trans unread left less (spellings_joined pieces) piece first second)
 
-pub lone_served-heard : (g : Ground) (now : Lone) (piece : List ℕ) (rounds : List LoneTurn)
+pub lone_served-heard : (g : Ground) (now : LoneTenant) (piece : List ℕ) (rounds : List LoneTurn)
     → reply_taken (lone_step g now (hears piece)) ≡ []
     → lone_served g now (hears piece ∷ rounds) ≡ lone_served g (lone_after g now (hears piece)) rounds
 lone_served-heard g now piece rounds gives =
     ap (λ (bytes : List ℕ). bytes ++ lone_served g (lone_after g now (hears piece)) rounds) gives
 
-pub heard-never_worn : (g : Ground) (now : Lone) (piece : List ℕ) (rounds : List LoneTurn)
+pub heard-never_worn : (g : Ground) (now : LoneTenant) (piece : List ℕ) (rounds : List LoneTurn)
     → lone_step g now (hears piece) ≢ refused Refusal.Worn
     → (MeetsWorn g (lone_after g now (hears piece)) rounds → ⊥)
     → MeetsWorn g now (hears piece ∷ rounds) → ⊥
 heard-never_worn g now piece rounds not_worn never (inl here) = not_worn here
 heard-never_worn g now piece rounds not_worn never (inr later) = never later
 
-pub serving-more : (g : Ground) (Old Mid New : Lone → Type 0) (q : Lone)
+pub serving-more : (g : Ground) (Old Mid New : LoneTenant → Type 0) (q : LoneTenant)
     (unread left less held holds grown : Option (List ℕ)) (piece : List ℕ)
     (on : Serving g Old q unread left held holds) → IsPiece piece → Consumes left less piece
     → TakesIn g Mid (lone_run g q on.turns) piece
     → (made : MakesRounds g New (lone_after g (lone_run g q on.turns) (hears piece)) holds grown Rounds.Idle)
-    → stream_fault g.readings (lone_run g (lone_after g (lone_run g q on.turns) (hears piece)) made.0).quiet.heard ≡ None
+    → stream_fault g.readings (lone_run g (lone_after g (lone_run g q on.turns) (hears piece)) made.0).state.heard ≡ None
     → Serving g New q unread less held grown
 serving-more g Old Mid New q unread left less held holds grown piece on is consumes taken made
     clean =
@@ -133,15 +133,15 @@ serving-more g Old Mid New q unread left less held holds grown piece on is consu
           on.appends made.2.appends);
       stands = subst New (sym gone) made.2.stands;
       never_worn = meets-neither g q on.turns turns on.never_worn never;
-      no_fault = ap (λ (v : Lone). stream_fault g.readings v.quiet.heard) gone ∙ clean;
+      no_fault = ap (λ (v : LoneTenant). stream_fault g.readings v.state.heard) gone ∙ clean;
       heard =
-          ap (λ (v : Lone). v.quiet.heard) gone ∙ rounds-heard g then_on rounds made.1 ∙ taken.heard
+          ap (λ (v : LoneTenant). v.state.heard) gone ∙ rounds-heard g then_on rounds made.1 ∙ taken.heard
           ∙ ap (λ (bytes : List ℕ). bytes ++ piece) on.heard ∙ sym (spellings_joined-append on.pieces piece);
-      empty = ap (λ (v : Lone). v.quiet.replies) gone ∙ rounds-empty g then_on rounds made.1;
+      empty = ap (λ (v : LoneTenant). v.state.replies) gone ∙ rounds-empty g then_on rounds made.1;
       closes = λ (more : List (List ℕ)) (behind : List LoneTurn)
           (schedule : IsSchedule g (lone_run g q (on.turns ++ turns)) more behind).
           let later : IsSchedule g (lone_run g then_on rounds) more behind =
-          subst (λ (v : Lone). IsSchedule g v more behind) gone schedule in
+          subst (λ (v : LoneTenant). IsSchedule g v more behind) gone schedule in
           let all : IsSchedule g now (piece ∷ more) (turns ++ behind) =
           (rounds, behind, made.1, λ (some : more ≢ []). (never, clean), later, refl) in
           let whole : IsSchedule g q (on.pieces ++ piece ∷ more) (on.turns ++ (turns ++ behind)) =

@@ -11,10 +11,10 @@ use Rattle.repl_replies.specs.Replies.{OriginData}
 use Rattle.std.specs.Prelude.{option_and_then, is_some}
 use Rattle.server_rules.specs.Readings.{ProgramData}
 use Rattle.server_rules.specs.Ground.{Ground}
-use Rattle.server_rules.specs.Request.{Waiting, ProgramText, code, file, Manner, Hand, each_form}
+use Rattle.server_rules.specs.Request.{Waiting, ProgramText, code, file, Manner, WorkInHand, each_form}
 use Rattle.server_rules.specs.Request.{each_form_elsewhere, last_form}
 use Rattle.ref_table.specs.Numbered.{part_under, with_part, without}
-use Rattle.server_rules.specs.Tenant.{ActorData, seat_of, Quiet, is_held, actor_state}
+use Rattle.server_rules.specs.Tenant.{ActorData, seat_of, TenantState, is_held, actor_state}
 use Rattle.server_rules.specs.Plan.{Outcome, refuses, leaves, Plan}
 use Rattle.server_rules.specs.Starting.{Started, next_begun, program_begun, elsewhere_begun}
 use Rattle.server_rules.specs.Starting.{hand_of, code_begun, text_begun, namespace_there}
@@ -30,31 +30,31 @@ use Rattle.server_rules.proofs.Numbered.{part_under-other}
 use Rattle.nrepl_pipe.proofs.Apart.{part_under-without}
 
 -- the other actors are as they were
-abbrev pub OthersStay : Actor → Quiet → Quiet → Type 0
+abbrev pub OthersStay : Actor → TenantState → TenantState → Type 0
 OthersStay a q new =
     (n : ℕ) → n ≢ seat_of a → part_under n new.actors ≡ part_under n q.actors
 
 -- What a deed of an actor comes to where steps are left: refused for replies only where too many
 -- wait; or one step less is left, the stream is as it was, no bytes are given, and the other actors
 -- are as they were.
-abbrev pub GoesSo : Actor → Quiet → Outcome → Type 0
+abbrev pub GoesSo : Actor → TenantState → Outcome → Type 0
 GoesSo a q (refuses why) = why ≡ Refusal.Held → is_held q ≡ true
 GoesSo a q (leaves new answer) =
     (new.steps ≡ q.steps - 1) × (new.heard ≡ q.heard) × (bytes_in answer ≡ []) × OthersStay a q new
 
-abbrev pub PlansSo : Actor → Quiet → Plan → Type 0
+abbrev pub PlansSo : Actor → TenantState → Plan → Type 0
 PlansSo a q p = (told : Option AnswerData) → GoesSo a q (p.next told)
 
 -- the actor is changed, or gone
-pub with-stays : (a : Actor) (actor : ActorData) (q : Quiet) (n : ℕ) → n ≢ seat_of a
+pub with-stays : (a : Actor) (actor : ActorData) (q : TenantState) (n : ℕ) → n ≢ seat_of a
     → part_under n (with_part (seat_of a) actor q.actors) ≡ part_under n q.actors
 with-stays a actor q n other = part_under-other n (seat_of a) actor q.actors other
 
-pub without-stays : (a : Actor) (q : Quiet) (n : ℕ) → n ≢ seat_of a
+pub without-stays : (a : Actor) (q : TenantState) (n : ℕ) → n ≢ seat_of a
     → part_under n (without (seat_of a) q.actors) ≡ part_under n q.actors
 without-stays a q n other = part_under-without n (seat_of a) q.actors other
 
-begun-so : (g : Ground) (h : Hand) (state : StateData) (forms : Items)
+begun-so : (g : Ground) (h : WorkInHand) (state : StateData) (forms : Items)
     → bytes_in (next_begun g h state forms).answer ≡ []
 begun-so g h state no_items = refl
 begun-so g h state (item d ds) = refl
@@ -85,7 +85,7 @@ text-so g spaces origin state (code text ns) = code-so g spaces origin text stat
 text-so g spaces origin state (file text) =
     program-so g origin (last_form nil) state.namespace state (g.readings.program text)
 
-start_outcome-so : (a : Actor) (actor : ActorData) (s : Started) (q : Quiet)
+start_outcome-so : (a : Actor) (actor : ActorData) (s : Started) (q : TenantState)
     → bytes_in s.answer ≡ [] → GoesSo a q (start_outcome a actor s q)
 start_outcome-so Actor.Agents actor s q none =
     (refl, refl, none, with-stays Actor.Agents (record actor { hand = s.move.hand }) q)
@@ -94,15 +94,15 @@ start_outcome-so Actor.Bare actor s q none =
 start_outcome-so (Actor.Session n) actor s q none =
     (refl, refl, none, with-stays (Actor.Session n) (record actor { hand = s.move.hand }) q)
 
-held-by : (a : Actor) (q : Quiet) (o : Outcome) (held : Bool) → is_held q ≡ held → GoesSo a q o
+held-by : (a : Actor) (q : TenantState) (o : Outcome) (held : Bool) → is_held q ≡ held → GoesSo a q o
     → GoesSo a q (if held then refuses Refusal.Held else o)
 held-by a q o true is so = λ _. is
 held-by a q o false is so = so
 
-held-so : (a : Actor) (q : Quiet) (o : Outcome) → GoesSo a q o → GoesSo a q (held_or q o)
+held-so : (a : Actor) (q : TenantState) (o : Outcome) → GoesSo a q o → GoesSo a q (held_or q o)
 held-so a q o so = held-by a q o (is_held q) refl so
 
-next-so : (g : Ground) (a : Actor) (actor : ActorData) (h : Hand) (q : Quiet)
+next-so : (g : Ground) (a : Actor) (actor : ActorData) (h : WorkInHand) (q : TenantState)
     → GoesSo a q (start_in_hand g a actor h q false)
 next-so g a actor h q = by actor.is_closed where
   by : (closed : Bool) → GoesSo a q (if closed then interrupted_in a h q
@@ -112,7 +112,7 @@ next-so g a actor h q = by actor.is_closed where
       (start_outcome-so a actor (next_begun g h (actor_state a q) h.forms) q
       (begun-so g h (actor_state a q) h.forms))
 
-action-so : (g : Ground) (a : Actor) (actor : ActorData) (q : Quiet) (next : Option NextAction)
+action-so : (g : Ground) (a : Actor) (actor : ActorData) (q : TenantState) (next : Option NextAction)
     → GoesSo a q (start_action g a actor q next)
 action-so g a actor q None = λ e. cc
 action-so g a actor q (Some next) =
@@ -120,7 +120,7 @@ action-so g a actor q (Some next) =
     held-so a q (start_outcome a actor (action_begun g next) after)
     (start_outcome-so a actor (action_begun g next) after refl)
 
-waiting-so : (g : Ground) (a : Actor) (actor : ActorData) (q : Quiet) (ws : List Waiting)
+waiting-so : (g : Ground) (a : Actor) (actor : ActorData) (q : TenantState) (ws : List Waiting)
     → GoesSo a q (start_waiting g a actor q ws)
 waiting-so g a actor q [] = action-so g a actor q (action_for a q.cells.agents)
 waiting-so g a actor q (w ∷ ws) =
@@ -129,12 +129,12 @@ waiting-so g a actor q (w ∷ ws) =
     (start_outcome-so a (record actor { waiting = ws }) begun q
     (text-so g q.spaces w.origin (first_state a q) w.text))
 
-in_hand-so : (g : Ground) (a : Actor) (actor : ActorData) (h : Hand) (q : Quiet) (runs : Bool)
+in_hand-so : (g : Ground) (a : Actor) (actor : ActorData) (h : WorkInHand) (q : TenantState) (runs : Bool)
     → GoesSo a q (start_in_hand g a actor h q runs)
 in_hand-so g a actor h q true = λ e. cc
 in_hand-so g a actor h q false = next-so g a actor h q
 
-pub start-so : (g : Ground) (a : Actor) (actor : ActorData) (q : Quiet) (h : Option Hand)
+pub start-so : (g : Ground) (a : Actor) (actor : ActorData) (q : TenantState) (h : Option WorkInHand)
     → GoesSo a q (start_of g a actor q h)
 start-so g a actor q None = waiting-so g a actor q actor.waiting
 start-so g a actor q (Some h) = in_hand-so g a actor h q (is_some h.running)

@@ -3,7 +3,7 @@ use Rattle.std.proofs.Common.{◌+◌, ◌<◌, ◌≤◌, arith, ◌≡◌, ◌
 use Rattle.std.proofs.Common.{false, not, refl, sym, ap, ◌∙◌, subst}
 use Rattle.server_rules.specs.Ground.{Ground}
 use Rattle.server_rules.specs.declared.actor.Actor.{Actor}
-use Rattle.server_rules.specs.LoneTurns.{Lone, goes, LoneStepped, accepted, refused, lone_step, lone_or}
+use Rattle.server_rules.specs.LoneTurns.{LoneTenant, goes, LoneStepped, accepted, refused, lone_step, lone_or}
 use Rattle.server_rules.specs.LoneTurns.{lone_after, lone_run}
 use Rattle.nrepl_pipe.specs.Schedule.{go_each}
 use Rattle.nrepl_pipe.specs.Inside.Parts.{TurnsSo, with_turn, IsRound}
@@ -14,7 +14,7 @@ use Rattle.nrepl_pipe.proofs.Going.{StepsSo, go-steps}
 use Rattle.nrepl_pipe.proofs.EachRound.{held-waits}
 use Rattle.nrepl_pipe.proofs.Told.{with-turn}
 
-pub record TurnsOn (g : Ground) (Stands : Lone → Type 0) (q : Lone) (actors : List Actor)
+pub record TurnsOn (g : Ground) (Stands : LoneTenant → Type 0) (q : LoneTenant) (actors : List Actor)
     (told : Round) : Type 0 where
   pub stands : Stands (lone_run g q (go_each actors))
   pub told_so : IsRound told g q (go_each actors)
@@ -22,12 +22,12 @@ pub record TurnsOn (g : Ground) (Stands : Lone → Type 0) (q : Lone) (actors : 
   -- that wait
   pub used : told.uses_step ≡ true → told.is_last ≡ false
   pub untouched : told.uses_step ≡ false → (lone_run g q (go_each actors) ≡ q)
-      × (told.is_last ≡ false → q.quiet.replies ≢ [])
+      × (told.is_last ≡ false → q.state.replies ≢ [])
 
 abbrev pub none_told : Round
 none_told = record { is_last = true; uses_step = false; is_worn = false }
 
-pub turns-none : (g : Ground) (Stands : Lone → Type 0) (q : Lone) → Stands q
+pub turns-none : (g : Ground) (Stands : LoneTenant → Type 0) (q : LoneTenant) → Stands q
     → TurnsOn g Stands q [] none_told
 turns-none g Stands q stands = record {
   stands = stands;
@@ -63,7 +63,7 @@ fewer-left told Turned.Idle start now later before most fewer one is =
     let already = before is in omega arith
 
 -- no step is used up
-stays : (q : Lone) (told : Round) (came : Turned) (s : LoneStepped) → TurnsSo came s
+stays : (q : LoneTenant) (told : Round) (came : Turned) (s : LoneStepped) → TurnsSo came s
     → (with_turn told came).uses_step ≡ false
     → (told.uses_step ≡ false) × (lone_or q s ≡ q)
 stays q told Turned.Done s is none = cc
@@ -72,16 +72,16 @@ stays q told Turned.Worn s is none = (none, ap (lone_or q) is)
 stays q told Turned.Idle (refused why) is none = (none, refl)
 stays q told Turned.Idle (accepted new bytes) is none = absurd is.0
 
-waits : (q : Lone) (told : Round) (came : Turned) (s : LoneStepped) → StepsSo q s → TurnsSo came s
-    → (with_turn told came).uses_step ≡ false → (told.is_last ≡ false → q.quiet.replies ≢ [])
-    → (with_turn told came).is_last ≡ false → q.quiet.replies ≢ []
+waits : (q : LoneTenant) (told : Round) (came : Turned) (s : LoneStepped) → StepsSo q s → TurnsSo came s
+    → (with_turn told came).uses_step ≡ false → (told.is_last ≡ false → q.state.replies ≢ [])
+    → (with_turn told came).is_last ≡ false → q.state.replies ≢ []
 waits q told Turned.Done s so is none before on = cc
 waits q told Turned.Held s so is none before on =
     let held = subst (StepsSo q) is so in held-waits q (held refl)
 waits q told Turned.Worn s so is none before on = before on
 waits q told Turned.Idle s so is none before on = before on
 
-pub turns-more : (g : Ground) (Old New : Lone → Type 0) (q : Lone) (actors : List Actor)
+pub turns-more : (g : Ground) (Old New : LoneTenant → Type 0) (q : LoneTenant) (actors : List Actor)
     (a : Actor) (told : Round) (came : Turned) (on : TurnsOn g Old q actors told)
     → TurnsSo came (lone_step g (lone_run g q (go_each actors)) (goes a))
     → New (lone_after g (lone_run g q (go_each actors)) (goes a))
@@ -107,15 +107,15 @@ turns-more g Old New q actors a told came on is stands =
           );
     }
 
-last-of : (q : Lone) (last uses : Bool) → (uses ≡ true → last ≡ false)
-    → (uses ≡ false → last ≡ false → q.quiet.replies ≢ []) → q.quiet.replies ≡ [] → last ≡ not uses
+last-of : (q : LoneTenant) (last uses : Bool) → (uses ≡ true → last ≡ false)
+    → (uses ≡ false → last ≡ false → q.state.replies ≢ []) → q.state.replies ≡ [] → last ≡ not uses
 last-of q last true used waits none = used refl
 last-of q true false used waits none = refl
 last-of q false false used waits none = absurd (waits refl refl none)
 
 -- where no reply waits, another round follows only where a step was used up
-pub turns-last : (g : Ground) (Stands : Lone → Type 0) (q : Lone) (actors : List Actor)
-    (told : Round) → TurnsOn g Stands q actors told → q.quiet.replies ≡ []
+pub turns-last : (g : Ground) (Stands : LoneTenant → Type 0) (q : LoneTenant) (actors : List Actor)
+    (told : Round) → TurnsOn g Stands q actors told → q.state.replies ≡ []
     → told.is_last ≡ not told.uses_step
 turns-last g Stands q actors told on none =
     last-of q told.is_last told.uses_step on.used (λ unused. (on.untouched unused).1) none

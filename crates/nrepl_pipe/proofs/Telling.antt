@@ -7,7 +7,7 @@ use Rattle.bencode_wire.specs.Fault.{counted_place, fault_at}
 use Rattle.bencode_wire.specs.declared.fault.WireFault.{WireFault}
 use Rattle.server_rules.specs.Ground.{Ground}
 use Rattle.server_rules.specs.Hearing.{fault_in}
-use Rattle.server_rules.specs.LoneTurns.{Lone, hears, lone_after, lone_run}
+use Rattle.server_rules.specs.LoneTurns.{LoneTenant, hears, lone_after, lone_run}
 use Rattle.server_rules.specs.Inside.Wires.{wire_at}
 use Rattle.server_rules.specs.declared.turns.Wire.{Wire}
 use Rattle.nrepl_pipe.specs.Schedule.{stream_end}
@@ -38,20 +38,20 @@ pub wire-clean : (wire : Wire) (end : StreamEnding) → wire ≡ wire_at end
 wire-clean wire (rest m) e never = refl
 wire-clean wire (fault rule at) e never = absurd (never (fault_at rule (counted_place at)) e)
 
-pub ends-worn : (g : Ground) (New : Lone → Type 0) (now : Lone) (held holds : Option (List ℕ))
+pub ends-worn : (g : Ground) (New : LoneTenant → Type 0) (now : LoneTenant) (held holds : Option (List ℕ))
     (piece : List ℕ)
     (made : MakesRounds g New (lone_after g now (hears piece)) held holds Rounds.Worn)
     → EndsWith g now piece (hears piece ∷ made.0) PipeEnd.Worn
 ends-worn g New now held holds piece made = inl (inr made.3, refl)
 
-pub ends-broken : (g : Ground) (Mid New : Lone → Type 0) (now : Lone)
+pub ends-broken : (g : Ground) (Mid New : LoneTenant → Type 0) (now : LoneTenant)
     (held holds : Option (List ℕ)) (piece : List ℕ) (end : PipeEnd) → TakesIn g Mid now piece
     → (made : MakesRounds g New (lone_after g now (hears piece)) held holds Rounds.Idle)
-    → end ≡ stream_end (g.readings.stream (lone_run g (lone_after g now (hears piece)) made.0).quiet.heard).ending
+    → end ≡ stream_end (g.readings.stream (lone_run g (lone_after g now (hears piece)) made.0).state.heard).ending
     → EndsWith g now piece (hears piece ∷ made.0) end
 ends-broken g Mid New now held holds piece end taken made is =
     let v = lone_after g now (hears piece) in
-    let heard : (lone_run g v made.0).quiet.heard ≡ now.quiet.heard ++ piece =
+    let heard : (lone_run g v made.0).state.heard ≡ now.state.heard ++ piece =
     rounds-heard g v made.0 made.1 ∙ taken.heard in
     inr (
       heard-never_worn g now piece made.0 taken.not_worn made.3,

@@ -5,7 +5,7 @@ use Rattle.std.specs.Prelude.{◌↔◌, ⊤}
 use Rattle.server_rules.specs.Ground.{Ground}
 use Rattle.server_rules.specs.declared.refusal.Refusal.{Refusal}
 use Rattle.server_rules.specs.Inside.Turned.{Accepted}
-use Rattle.server_rules.specs.LoneTurns.{Lone, LoneTurn, LoneStepped, accepted, refused, lone_step}
+use Rattle.server_rules.specs.LoneTurns.{LoneTenant, LoneTurn, LoneStepped, accepted, refused, lone_step}
 use Rattle.server_rules.specs.LoneTurns.{lone_run}
 use Rattle.nrepl_pipe.specs.Schedule.{Rests, AllRest, MeetsWorn}
 use Rattle.nrepl_pipe.specs.Inside.Parts.{TurnsSo, with_turn, IsRound}
@@ -14,7 +14,7 @@ use Rattle.nrepl_pipe.specs.declared.actors.Turned.{Turned}
 use Rattle.nrepl_pipe.proofs.Turns.{meets-front, meets-behind, meets-either, rest-append}
 use Rattle.nrepl_pipe.proofs.Turns.{rest-front, rest-behind}
 
-same-last : (g : Ground) (q : Lone) (turns : List LoneTurn) (turn : LoneTurn) (b : Bool)
+same-last : (g : Ground) (q : LoneTenant) (turns : List LoneTurn) (turn : LoneTurn) (b : Bool)
     → (b ≡ true) ↔ AllRest g q turns → Rests (lone_step g (lone_run g q turns) turn)
     → (b ≡ true) ↔ AllRest g q (turns ++ turn ∷ [])
 same-last g q turns turn b so rests = (
@@ -22,7 +22,7 @@ same-last g q turns turn b so rests = (
   λ all. so.1 (rest-front g q turns (turn ∷ []) all),
 )
 
-no-last : (g : Ground) (q : Lone) (turns : List LoneTurn) (turn : LoneTurn)
+no-last : (g : Ground) (q : LoneTenant) (turns : List LoneTurn) (turn : LoneTurn)
     → (Rests (lone_step g (lone_run g q turns) turn) → ⊥)
     → (false ≡ true) ↔ AllRest g q (turns ++ turn ∷ [])
 no-last g q turns turn goes_on = (
@@ -30,7 +30,7 @@ no-last g q turns turn goes_on = (
   λ all. absurd (goes_on (rest-behind g q turns (turn ∷ []) all).0),
 )
 
-same-worn : (g : Ground) (q : Lone) (turns : List LoneTurn) (turn : LoneTurn) (b : Bool)
+same-worn : (g : Ground) (q : LoneTenant) (turns : List LoneTurn) (turn : LoneTurn) (b : Bool)
     → (b ≡ true) ↔ MeetsWorn g q turns
     → (lone_step g (lone_run g q turns) turn ≡ refused Refusal.Worn → ⊥)
     → (b ≡ true) ↔ MeetsWorn g q (turns ++ turn ∷ [])
@@ -43,7 +43,7 @@ same-worn g q turns turn b so other = (
   by (inr (inl here)) = absurd (other here)
   by (inr (inr never)) = absurd never
 
-now-worn : (g : Ground) (q : Lone) (turns : List LoneTurn) (turn : LoneTurn)
+now-worn : (g : Ground) (q : LoneTenant) (turns : List LoneTurn) (turn : LoneTurn)
     → lone_step g (lone_run g q turns) turn ≡ refused Refusal.Worn
     → (true ≡ true) ↔ MeetsWorn g q (turns ++ turn ∷ [])
 now-worn g q turns turn is = (
@@ -59,7 +59,7 @@ accepted-not_worn : (s : LoneStepped) → Accepted (λ q. ⊤) s → s ≡ refus
 accepted-not_worn (accepted new bytes) is worn = cc
 accepted-not_worn (refused why) is worn = is
 
-pub with-turn : (g : Ground) (q : Lone) (turns : List LoneTurn) (turn : LoneTurn) (told : Round)
+pub with-turn : (g : Ground) (q : LoneTenant) (turns : List LoneTurn) (turn : LoneTurn) (told : Round)
     (came : Turned) → IsRound told g q turns → TurnsSo came (lone_step g (lone_run g q turns) turn)
     → IsRound (with_turn told came) g q (turns ++ turn ∷ [])
 with-turn g q turns turn told Turned.Done so is = record {

@@ -15,10 +15,10 @@ write_fails (Ok (suc n)) = false
 write_fails (Err error) = true
 
 -- a call has failed by now where one had failed before or one failed since, as far as that is known
-abbrev pub Marks : Option Bool → Option Bool → Bool → Type 0
-Marks None now since = ⊤
-Marks (Some before) None since = ⊥
-Marks (Some before) (Some now) since = now ≡ (before || since)
+abbrev pub MarksFailure : Option Bool → Option Bool → Bool → Type 0
+MarksFailure None now since = ⊤
+MarksFailure (Some before) None since = ⊥
+MarksFailure (Some before) (Some now) since = now ≡ (before || since)
 
 abbrev pub is_read_failed : {A : Type 0} → Result A PipeError → Bool
 is_read_failed (Err PipeError.ReadFailed) = true
@@ -38,5 +38,5 @@ is_text_fault _ = false
 abbrev pub TellsFailures : {A : Type 0} → Option Bool → Option Bool → Option Bool → Option Bool
     → Result A PipeError → Type 0
 TellsFailures read_before read_now write_before write_now result =
-    Marks read_before read_now (is_read_failed result)
-    × Marks write_before write_now (is_write_failed result)
+    MarksFailure read_before read_now (is_read_failed result)
+    × MarksFailure write_before write_now (is_write_failed result)

@@ -1,7 +1,7 @@
 -- The reads of a stream, and when they are made.
 use Rattle.std.specs.Prelude.{◌≡◌, ℕ, List, [], ◌∷◌, ◌++◌, ⊤, Option, None, Some, Result, OnOk}
 use Rattle.server_rules.specs.Ground.{Ground}
-use Rattle.server_rules.specs.LoneTurns.{Lone}
+use Rattle.server_rules.specs.LoneTurns.{LoneTenant}
 use Rattle.nrepl_pipe.specs.Served.{Moves, ServesSoFar}
 use Rattle.nrepl_pipe.specs.declared.stream.TheConstants.{PIECE}
 
@@ -22,17 +22,17 @@ ReadsSince (Some before) None since = ⊥
 ReadsSince (Some before) (Some now) since = now ≡ before ++ since
 
 -- it has room for a whole piece, and all is written by then that what was read serves
-abbrev pub IsPrompt : Ground → Lone → Option (List ℕ) → Option (List ℕ) → ReadAt → Type 0
+abbrev pub IsPrompt : Ground → LoneTenant → Option (List ℕ) → Option (List ℕ) → ReadAt → Type 0
 IsPrompt g l unread held r =
     (r.room ≡ PIECE) × Moves unread r.unread held r.written (ServesSoFar g l)
 
-abbrev pub ArePrompt : Ground → Lone → Option (List ℕ) → Option (List ℕ) → List ReadAt → Type 0
+abbrev pub ArePrompt : Ground → LoneTenant → Option (List ℕ) → Option (List ℕ) → List ReadAt → Type 0
 ArePrompt g l unread held [] = ⊤
 ArePrompt g l unread held (r ∷ rs) = IsPrompt g l unread held r × ArePrompt g l unread held rs
 
 -- no read is made before the replies to what was read are written
 abbrev pub ReadsPromptly
-    : Ground → Lone → Option (List ℕ) → Option (List ℕ) → Option (List ReadAt)
+    : Ground → LoneTenant → Option (List ℕ) → Option (List ℕ) → Option (List ReadAt)
     → Option (List ReadAt) → Type 0
 ReadsPromptly g l unread held before now =
     (since : List ReadAt) × ReadsSince before now since × ArePrompt g l unread held since

@@ -7,7 +7,7 @@ use Rattle.server_rules.specs.Ground.{Ground}
 use Rattle.server_rules.specs.Hearing.{stream_fault}
 use Rattle.server_rules.specs.declared.actor.Actor.{Actor}
 use Rattle.server_rules.specs.declared.refusal.Refusal.{Refusal}
-use Rattle.server_rules.specs.LoneTurns.{Lone, LoneTurn, hears, goes, drains, actors_of}
+use Rattle.server_rules.specs.LoneTurns.{LoneTenant, LoneTurn, hears, goes, drains, actors_of}
 use Rattle.server_rules.specs.LoneTurns.{LoneStepped}
 use Rattle.server_rules.specs.LoneTurns.{accepted, refused, lone_step, lone_after, lone_run}
 use Rattle.nrepl_pipe.specs.declared.ends.PipeEnd.{PipeEnd}
@@ -30,8 +30,8 @@ drain_all (reply ∷ replies) = drains ∷ drain_all replies
 
 -- a round: each actor that is there as it begins goes on once, and then the replies that wait are
 -- taken out
-abbrev pub round : Ground → Lone → List LoneTurn
-round g l = go_each (actors_of l) ++ drain_all (lone_run g l (go_each (actors_of l))).quiet.replies
+abbrev pub round : Ground → LoneTenant → List LoneTurn
+round g l = go_each (actors_of l) ++ drain_all (lone_run g l (go_each (actors_of l))).state.replies
 
 -- the turn is refused, and not for the replies that wait
 abbrev pub Rests : LoneStepped → Type 0
@@ -39,33 +39,33 @@ Rests (accepted new bytes) = ⊥
 Rests (refused why) = why ≢ Refusal.Held
 
 -- each of these turns is refused, and none for the replies that wait
-abbrev pub AllRest : Ground → Lone → List LoneTurn → Type 0
+abbrev pub AllRest : Ground → LoneTenant → List LoneTurn → Type 0
 AllRest g l [] = ⊤
 AllRest g l (turn ∷ turns) = Rests (lone_step g l turn) × AllRest g (lone_after g l turn) turns
 
 -- the round in which no actor goes on, nor waits for replies to be taken out
-abbrev pub IsLast : Ground → Lone → Type 0
+abbrev pub IsLast : Ground → LoneTenant → Type 0
 IsLast g l = AllRest g l (go_each (actors_of l))
 
 -- the turns of the rounds behind a piece
-pub data AreRounds (g : Ground) : Lone → List LoneTurn → Type 0 where
-  last : (l : Lone) → IsLast g l → AreRounds g l (round g l)
-  more : (l : Lone) (turns : List LoneTurn) → (IsLast g l → ⊥)
+pub data AreRounds (g : Ground) : LoneTenant → List LoneTurn → Type 0 where
+  last : (l : LoneTenant) → IsLast g l → AreRounds g l (round g l)
+  more : (l : LoneTenant) (turns : List LoneTurn) → (IsLast g l → ⊥)
       → AreRounds g (lone_run g l (round g l)) turns → AreRounds g l (round g l ++ turns)
 
 -- a turn was refused since all steps were used up
-abbrev pub MeetsWorn : Ground → Lone → List LoneTurn → Type 0
+abbrev pub MeetsWorn : Ground → LoneTenant → List LoneTurn → Type 0
 MeetsWorn g l [] = ⊥
 MeetsWorn g l (turn ∷ turns) =
     (lone_step g l turn ≡ refused Refusal.Worn) ⊎ MeetsWorn g (lone_after g l turn) turns
 
 -- reading goes on behind these turns: no turn met the end of the steps, and the stream has no fault
-abbrev pub ReadsOn : Ground → Lone → List LoneTurn → Type 0
+abbrev pub ReadsOn : Ground → LoneTenant → List LoneTurn → Type 0
 ReadsOn g l turns =
-    (MeetsWorn g l turns → ⊥) × (stream_fault g.readings (lone_run g l turns).quiet.heard ≡ None)
+    (MeetsWorn g l turns → ⊥) × (stream_fault g.readings (lone_run g l turns).state.heard ≡ None)
 
 -- each piece is heard and rounds follow; another piece is read only where reading goes on
-abbrev pub IsSchedule : Ground → Lone → List (List ℕ) → List LoneTurn → Type 0
+abbrev pub IsSchedule : Ground → LoneTenant → List (List ℕ) → List LoneTurn → Type 0
 IsSchedule g l [] turns = turns ≡ []
 IsSchedule g l (piece ∷ pieces) turns =
     (rounds : List LoneTurn) × (behind : List LoneTurn)
@@ -81,7 +81,7 @@ stream_end (rest (byte ∷ m)) = PipeEnd.Truncated
 stream_end (fault rule at) = PipeEnd.Broken (fault_at rule (counted_place at))
 
 -- wherever a turn met the end of the steps, that is the end; else what was read says how it ends
-abbrev pub IsEnd : Ground → Lone → List LoneTurn → List ℕ → PipeEnd → Type 0
+abbrev pub IsEnd : Ground → LoneTenant → List LoneTurn → List ℕ → PipeEnd → Type 0
 IsEnd g l turns read end =
     (MeetsWorn g l turns × (end ≡ PipeEnd.Worn))
     ⊎ ((MeetsWorn g l turns → ⊥) × (end ≡ stream_end (g.readings.stream read).ending))

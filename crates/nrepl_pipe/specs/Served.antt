@@ -3,14 +3,14 @@ use Rattle.std.specs.Prelude.{◌≡◌, ℕ, List, ◌++◌, ⊤, Option, Resul
 use Rattle.std.specs.Io.KnownBytes.{Consumes, Appends, IsAtEnd}
 use Rattle.bencode_wire.specs.Spelling.{spellings_joined}
 use Rattle.server_rules.specs.Ground.{Ground}
-use Rattle.server_rules.specs.LoneTurns.{Lone, LoneTurn, lone_served}
+use Rattle.server_rules.specs.LoneTurns.{LoneTenant, LoneTurn, lone_served}
 use Rattle.nrepl_pipe.specs.Schedule.{ArePieces, IsSchedule, IsEnd}
 use Rattle.nrepl_pipe.specs.declared.ends.PipeEnd.{PipeEnd}
 use Rattle.nrepl_pipe.specs.declared.ends.PipeError.{PipeError}
 
 -- for some cutting of what was read into pieces, what was written is what the schedule of these
 -- pieces serves
-pub record ServesSoFar (g : Ground) (l : Lone) (read written : List ℕ) : Type 0 where
+pub record ServesSoFar (g : Ground) (l : LoneTenant) (read written : List ℕ) : Type 0 where
   pub pieces : List (List ℕ)
   pub turns : List LoneTurn
   pub are_pieces : ArePieces pieces
@@ -19,12 +19,12 @@ pub record ServesSoFar (g : Ground) (l : Lone) (read written : List ℕ) : Type 
   pub written_is : written ≡ lone_served g l turns
 
 -- and so it ends
-pub record Serves (g : Ground) (l : Lone) (read written : List ℕ) (end : PipeEnd) : Type 0 where
+pub record Serves (g : Ground) (l : LoneTenant) (read written : List ℕ) (end : PipeEnd) : Type 0 where
   pub all : ServesSoFar g l read written
   pub is_end : IsEnd g l all.turns read end
 
 -- what was written begins what the schedule of these pieces serves
-pub record BeginsToServe (g : Ground) (l : Lone) (read written : List ℕ) : Type 0 where
+pub record BeginsToServe (g : Ground) (l : LoneTenant) (read written : List ℕ) : Type 0 where
   pub pieces : List (List ℕ)
   pub turns : List LoneTurn
   pub are_pieces : ArePieces pieces
@@ -50,7 +50,7 @@ Moves unread left held holds are =
 -- where it ends well, all that the schedule serves was written; after an error a part of it from
 -- its front
 abbrev pub IsPipeOutcome
-    : Ground → Lone → Option (List ℕ) → Option (List ℕ) → Option (List ℕ) → Option (List ℕ)
+    : Ground → LoneTenant → Option (List ℕ) → Option (List ℕ) → Option (List ℕ) → Option (List ℕ)
     → Result PipeEnd PipeError → Type 0
 IsPipeOutcome g l unread left held holds (Ok end) =
     Moves unread left held holds (λ read written. Serves g l read written end) × IsReadUp end left

@@ -2,7 +2,7 @@
 ghost use Rattle.std.specs.Prelude.{◌≡◌, ◌+◌, ◌<◌, ◌≤◌, [], Ok, true, not, IfOk, IfErr};
 ghost use Rattle.server_rules.specs.Ground.{Ground};
 ghost use Rattle.server_rules.specs.Grounds.{IsRight};
-ghost use Rattle.server_rules.specs.LoneTurns.{Lone, goes, actors_of, lone_step, lone_after};
+ghost use Rattle.server_rules.specs.LoneTurns.{LoneTenant, goes, actors_of, lone_step, lone_after};
 ghost use Rattle.server_rules.specs.LoneTurns.{lone_run};
 ghost use Rattle.nrepl_pipe.specs.Schedule.{go_each};
 ghost use Rattle.nrepl_pipe.specs.Inside.Parts.{TurnsSo, with_turn, IsRound};
@@ -40,9 +40,9 @@ pub(crate) fn go_each<C: Core>(alloc: Global, core: &mut C) -> Result<Round, Pip
     ensures steps { (C.left core.new).steps ≤ (C.left core.old).steps }
     ensures used { IfOk result (λ told. told.uses_step ≡ true
         → (C.left core.new).steps < (C.left core.old).steps) }
-    ensures goes_on { (g : Ground) (l : Lone) → IsRight g → C.stands g core.old l
-        → l.quiet.replies ≡ [] → IfOk result (λ told. told.is_last ≡ not told.uses_step) }
-    ensures turned { (g : Ground) (l : Lone) → IsRight g → C.stands g core.old l
+    ensures goes_on { (g : Ground) (l : LoneTenant) → IsRight g → C.stands g core.old l
+        → l.state.replies ≡ [] → IfOk result (λ told. told.is_last ≡ not told.uses_step) }
+    ensures turned { (g : Ground) (l : LoneTenant) → IsRight g → C.stands g core.old l
         → IfOk result (λ told. IsRound told g l (go_each (actors_of l))
         × C.stands g core.new (lone_run g l (go_each (actors_of l)))) }
     ensures told { IfErr result (λ why. why ≡ PipeError.NoMemory) }
@@ -86,7 +86,7 @@ impl Round {
 fn go_once<C: Core>(core: &mut C, actor: Actor) -> Result<Turned, PipeError>
     ensures steps { (C.left core.new).steps ≤ (C.left core.old).steps }
     ensures done { result ≡ Ok Turned.Done → (C.left core.old).steps ≡ (C.left core.new).steps + 1 }
-    ensures turned { (g : Ground) (l : Lone) → IsRight g → C.stands g core.old l
+    ensures turned { (g : Ground) (l : LoneTenant) → IsRight g → C.stands g core.old l
         → IfOk result (λ came. TurnsSo came (lone_step g l (goes actor))
         × C.stands g core.new (lone_after g l (goes actor))) }
     ensures told { IfErr result (λ why. why ≡ PipeError.NoMemory) }

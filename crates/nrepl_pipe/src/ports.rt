@@ -2,7 +2,7 @@
 ghost use Rattle.std.specs.Prelude.{◌≡◌, ℕ, List, [], ◌∷◌, length, Bool, Option, None};
 ghost use Rattle.std.specs.Io.{ReadsAtMost, WritesAtMost};
 ghost use Rattle.std.specs.Io.KnownBytes.{Keeps, ReadConsumes, WriteAppends};
-ghost use Rattle.nrepl_pipe.specs.Failing.{Marks, read_fails, write_fails};
+ghost use Rattle.nrepl_pipe.specs.Failing.{MarksFailure, read_fails, write_fails};
 ghost use Rattle.nrepl_pipe.specs.Reads.{ReadAt, ReadsSince, IsPassedOn};
 
 use std::io;
@@ -26,7 +26,7 @@ pub trait Source {
     fn read_bytes<W: Sink>(&mut self, writer: &W, buf: &mut [u8]) -> io::Result<usize>
         ensures bound { ReadsAtMost result buf.new }
         ensures bytes { ReadConsumes (remaining self.old) (remaining self.new) result buf.new }
-        ensures failed { Marks (failed self.old) (failed self.new) (read_fails result) }
+        ensures failed { MarksFailure (failed self.old) (failed self.new) (read_fails result) }
         ensures noted { ReadsSince (reads self.old) (reads self.new) (record {
           room = length buf.old;
           unread = remaining self.old;
@@ -61,7 +61,7 @@ pub trait Sink {
     fn write_bytes(&mut self, bytes: &[u8]) -> io::Result<usize>
         ensures bound { WritesAtMost result bytes.now }
         ensures bytes { WriteAppends (contents self.old) (contents self.new) result bytes.now }
-        ensures failed { Marks (failed self.old) (failed self.new) (write_fails result) };
+        ensures failed { MarksFailure (failed self.old) (failed self.new) (write_fails result) };
 
     /// Passes on what was written, where it was held back. It is no write, so nobody is told that
     /// it fails.

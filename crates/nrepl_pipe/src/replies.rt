@@ -2,11 +2,11 @@
 ghost use Rattle.std.specs.Prelude.{◌≡◌, ℕ, List, [], ◌++◌, false, OnOk, OnErr};
 ghost use Rattle.std.specs.Io.KnownBytes.{Appends};
 ghost use Rattle.server_rules.specs.Ground.{Ground};
-ghost use Rattle.server_rules.specs.LoneTurns.{Lone};
+ghost use Rattle.server_rules.specs.LoneTurns.{LoneTenant};
 ghost use Rattle.nrepl_pipe.specs.Schedule.{drain_all};
-ghost use Rattle.nrepl_pipe.specs.Failing.{Marks, is_read_failed, is_text_fault, is_write_failed};
+ghost use Rattle.nrepl_pipe.specs.Failing.{MarksFailure, is_read_failed, is_text_fault, is_write_failed};
 ghost use Rattle.nrepl_pipe.specs.Reads.{IsPassedOn};
-ghost use Rattle.nrepl_pipe.specs.Inside.Parts.{Makes, Begins};
+ghost use Rattle.nrepl_pipe.specs.Inside.Parts.{MakesTurns, Begins};
 
 use crate::ends::PipeError;
 use crate::ports::Sink;
@@ -15,15 +15,15 @@ use server_rules::Core;
 // Takes the replies out, and writes each at once.
 pub(crate) fn write_replies<C: Core, W: Sink>(core: &mut C, writer: &mut W) -> Result<(), PipeError>
     ensures steps { (C.left core.new).steps ≡ (C.left core.old).steps }
-    ensures ok { (g : Ground) (l : Lone) → C.stands g core.old l
-        → OnOk result (Makes g (C.stands g core.new) l (drain_all l.quiet.replies)
+    ensures ok { (g : Ground) (l : LoneTenant) → C.stands g core.old l
+        → OnOk result (MakesTurns g (C.stands g core.new) l (drain_all l.state.replies)
         (W.contents writer.old) (W.contents writer.new)) }
-    ensures err { (g : Ground) (l : Lone) → C.stands g core.old l
-        → OnErr result (Begins g l (drain_all l.quiet.replies)
+    ensures err { (g : Ground) (l : LoneTenant) → C.stands g core.old l
+        → OnErr result (Begins g l (drain_all l.state.replies)
         (W.contents writer.old) (W.contents writer.new)) }
     ensures passed { IsPassedOn (W.contents writer.old) (W.passed writer.old)
         → OnOk result (IsPassedOn (W.contents writer.new) (W.passed writer.new)) }
-    ensures told { Marks (W.failed writer.old) (W.failed writer.new) (is_write_failed result) }
+    ensures told { MarksFailure (W.failed writer.old) (W.failed writer.new) (is_write_failed result) }
     ensures no_read { is_read_failed result ≡ false }
     ensures no_text { is_text_fault result ≡ false }
 {
@@ -40,7 +40,7 @@ fn write_reply<W: Sink>(reply: &[u8], writer: &mut W) -> Result<(), PipeError>
     ensures err { OnErr result ((front back : List ℕ) × (reply.now ≡ front ++ back)
         × Appends (W.contents writer.old) (W.contents writer.new) front) }
     ensures passed { OnOk result (IsPassedOn (W.contents writer.new) (W.passed writer.new)) }
-    ensures told { Marks (W.failed writer.old) (W.failed writer.new) (is_write_failed result) }
+    ensures told { MarksFailure (W.failed writer.old) (W.failed writer.new) (is_write_failed result) }
     ensures no_read { is_read_failed result ≡ false }
     ensures no_text { is_text_fault result ≡ false }
 {

@@ -2,11 +2,11 @@
 ghost use Rattle.std.specs.Prelude.{◌≡◌, ◌<◌, ◌≤◌, [], true, false, not, IfOk, OnOk, OnErr};
 ghost use Rattle.server_rules.specs.Ground.{Ground};
 ghost use Rattle.server_rules.specs.Grounds.{IsRight};
-ghost use Rattle.server_rules.specs.LoneTurns.{Lone, actors_of};
+ghost use Rattle.server_rules.specs.LoneTurns.{LoneTenant, actors_of};
 ghost use Rattle.nrepl_pipe.specs.Schedule.{go_each, round};
-ghost use Rattle.nrepl_pipe.specs.Failing.{Marks, is_read_failed, is_text_fault, is_write_failed};
+ghost use Rattle.nrepl_pipe.specs.Failing.{MarksFailure, is_read_failed, is_text_fault, is_write_failed};
 ghost use Rattle.nrepl_pipe.specs.Reads.{IsPassedOn};
-ghost use Rattle.nrepl_pipe.specs.Inside.Parts.{IsRound, Makes, Begins, MakesRounds, BeginsRounds};
+ghost use Rattle.nrepl_pipe.specs.Inside.Parts.{IsRound, MakesTurns, Begins, MakesRounds, BeginsRounds};
 
 use crate::actors::{Round, go_each};
 use crate::ends::PipeError;
@@ -30,14 +30,14 @@ pub(crate) fn run_rounds<C: Core, W: Sink>(
     writer: &mut W,
 ) -> Result<Rounds, PipeError>
     ensures steps { (C.left core.new).steps ≤ (C.left core.old).steps }
-    ensures ok { (g : Ground) (l : Lone) → IsRight g → C.stands g core.old l
+    ensures ok { (g : Ground) (l : LoneTenant) → IsRight g → C.stands g core.old l
         → IfOk result (λ end. MakesRounds g (C.stands g core.new) l
         (W.contents writer.old) (W.contents writer.new) end) }
-    ensures err { (g : Ground) (l : Lone) → IsRight g → C.stands g core.old l
+    ensures err { (g : Ground) (l : LoneTenant) → IsRight g → C.stands g core.old l
         → OnErr result (BeginsRounds g l (W.contents writer.old) (W.contents writer.new)) }
     ensures passed { IsPassedOn (W.contents writer.old) (W.passed writer.old)
         → OnOk result (IsPassedOn (W.contents writer.new) (W.passed writer.new)) }
-    ensures told { Marks (W.failed writer.old) (W.failed writer.new) (is_write_failed result) }
+    ensures told { MarksFailure (W.failed writer.old) (W.failed writer.new) (is_write_failed result) }
     ensures no_read { is_read_failed result ≡ false }
     ensures no_text { is_text_fault result ≡ false }
 {
@@ -65,17 +65,17 @@ fn run_round<C: Core, W: Sink>(
     ensures steps { (C.left core.new).steps ≤ (C.left core.old).steps }
     ensures used { IfOk result (λ told. told.uses_step ≡ true
         → (C.left core.new).steps < (C.left core.old).steps) }
-    ensures goes_on { (g : Ground) (l : Lone) → IsRight g → C.stands g core.old l
-        → l.quiet.replies ≡ [] → IfOk result (λ told. told.is_last ≡ not told.uses_step) }
-    ensures ok { (g : Ground) (l : Lone) → IsRight g → C.stands g core.old l
+    ensures goes_on { (g : Ground) (l : LoneTenant) → IsRight g → C.stands g core.old l
+        → l.state.replies ≡ [] → IfOk result (λ told. told.is_last ≡ not told.uses_step) }
+    ensures ok { (g : Ground) (l : LoneTenant) → IsRight g → C.stands g core.old l
         → IfOk result (λ told. IsRound told g l (go_each (actors_of l))
-        × Makes g (C.stands g core.new) l (round g l)
+        × MakesTurns g (C.stands g core.new) l (round g l)
         (W.contents writer.old) (W.contents writer.new)) }
-    ensures err { (g : Ground) (l : Lone) → IsRight g → C.stands g core.old l
+    ensures err { (g : Ground) (l : LoneTenant) → IsRight g → C.stands g core.old l
         → OnErr result (Begins g l (round g l) (W.contents writer.old) (W.contents writer.new)) }
     ensures passed { IsPassedOn (W.contents writer.old) (W.passed writer.old)
         → OnOk result (IsPassedOn (W.contents writer.new) (W.passed writer.new)) }
-    ensures told { Marks (W.failed writer.old) (W.failed writer.new) (is_write_failed result) }
+    ensures told { MarksFailure (W.failed writer.old) (W.failed writer.new) (is_write_failed result) }
     ensures no_read { is_read_failed result ≡ false }
     ensures no_text { is_text_fault result ≡ false }
 {

@@ -4,12 +4,12 @@ ghost use Rattle.std.specs.Prelude.{MatchOption};
 ghost use Rattle.std.specs.Io.KnownBytes.{Consumes, IsAtEnd};
 ghost use Rattle.server_rules.specs.Ground.{Ground};
 ghost use Rattle.server_rules.specs.Grounds.{IsRight};
-ghost use Rattle.server_rules.specs.LoneTurns.{Lone, hears, lone_step};
+ghost use Rattle.server_rules.specs.LoneTurns.{LoneTenant, hears, lone_step};
 ghost use Rattle.nrepl_pipe.specs.Schedule.{stream_end};
 ghost use Rattle.nrepl_pipe.specs.Served.{IsPipeOutcome};
 ghost use Rattle.nrepl_pipe.specs.Reads.{ReadsSince, ReadsPromptly, HoldsNothingBack};
 ghost use Rattle.nrepl_pipe.specs.Inside.Fresh.{IsFresh, IsReady};
-ghost use Rattle.nrepl_pipe.specs.Failing.{Marks, TellsFailures, is_read_failed, is_text_fault};
+ghost use Rattle.nrepl_pipe.specs.Failing.{MarksFailure, TellsFailures, is_read_failed, is_text_fault};
 ghost use Rattle.nrepl_pipe.specs.Failing.{is_write_failed};
 ghost use Rattle.nrepl_pipe.specs.Inside.Parts.{IsPiece, LosesPiece, HearsSo};
 ghost use Rattle.nrepl_pipe.specs.declared.stream.TheConstants.{PIECE};
@@ -42,10 +42,10 @@ pub fn serve_stream<C: Core, R: Source, W: Sink>(
     reader: &mut R,
     writer: &mut W,
 ) -> Result<PipeEnd, PipeError>
-    ensures served { (g : Ground) (l : Lone) → IsRight g → C.stands g core.old l → IsFresh l
+    ensures served { (g : Ground) (l : LoneTenant) → IsRight g → C.stands g core.old l → IsFresh l
         → IsPipeOutcome g l (R.remaining reader.old) (R.remaining reader.new)
         (W.contents writer.old) (W.contents writer.new) result }
-    ensures prompt { (g : Ground) (l : Lone) → IsRight g → C.stands g core.old l → IsFresh l
+    ensures prompt { (g : Ground) (l : LoneTenant) → IsRight g → C.stands g core.old l → IsFresh l
         → ReadsPromptly g l (R.remaining reader.old) (W.contents writer.old)
         (R.reads reader.old) (R.reads reader.new) }
     ensures passed { HoldsNothingBack (W.contents writer.old) (W.passed writer.old)
@@ -72,8 +72,8 @@ pub fn serve_stream<C: Core, R: Source, W: Sink>(
 }
 
 fn end_of<C: Core>(core: &C) -> PipeEnd
-    ensures { (g : Ground) (l : Lone) → C.stands g core.now l
-        → result ≡ stream_end (g.readings.stream l.quiet.heard).ending }
+    ensures { (g : Ground) (l : LoneTenant) → C.stands g core.now l
+        → result ≡ stream_end (g.readings.stream l.state.heard).ending }
 {
     match core.wire() {
         Wire::Whole => PipeEnd::Whole,
@@ -94,7 +94,7 @@ fn next_piece<R: Source, W: Sink>(
         (λ piece. IsPiece piece
         × Consumes (R.remaining reader.old) (R.remaining reader.new) piece)) }
     ensures err { OnErr result (LosesPiece (R.remaining reader.old) (R.remaining reader.new)) }
-    ensures told { Marks (R.failed reader.old) (R.failed reader.new) (is_read_failed result) }
+    ensures told { MarksFailure (R.failed reader.old) (R.failed reader.new) (is_read_failed result) }
     ensures no_write { is_write_failed result ≡ false }
     ensures no_text { is_text_fault result ≡ false }
     ensures noted { ReadsSince (R.reads reader.old) (R.reads reader.new) (record {
@@ -125,7 +125,7 @@ enum HearAnswer {
 fn hear_piece<C: Core>(core: &mut C, piece: &Bytes) -> Result<HearAnswer, PipeError>
     ensures steps { result ≡ Ok HearAnswer.Done
         → (C.left core.old).steps ≡ (C.left core.new).steps + 1 }
-    ensures heard { (g : Ground) (l : Lone) → IsRight g → C.stands g core.old l → IsReady g l
+    ensures heard { (g : Ground) (l : LoneTenant) → IsRight g → C.stands g core.old l → IsReady g l
         → IfOk result (λ came. HearsSo came (C.stands g core.new)
         (lone_step g l (hears piece.now))) }
     ensures told { IfErr result (λ why. why ≡ PipeError.NoMemory) }

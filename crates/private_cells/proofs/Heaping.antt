@@ -3,14 +3,14 @@ use Rattle.std.proofs.Common.{◌≡◌, ℕ, ◌+◌, ◌<◌, ◌≤◌, List,
 use Rattle.std.proofs.Common.{Option, Some, None, option_map, arith, IfSome}
 use Rattle.std.proofs.lemmas.List.Sums.{sum_by-cons}
 use Rattle.private_cells.specs.Agents.{AgentData, ActionTurn}
-use Rattle.private_cells.specs.Inside.Turns.{Entry, turn_at, weight, heap_sum, HasTurns}
+use Rattle.private_cells.specs.Inside.Turns.{HeapTurn, turn_at, weight, heap_sum, HasTurns}
 use Rattle.private_cells.specs.Inside.Changes.{OpensAt}
 use Rattle.private_cells.proofs.Keeping.{turns_bounded}
 
-pub heap_count : (es : List Entry) → heap_sum (λ _. 1) es ≡ length es
+pub heap_count : (es : List HeapTurn) → heap_sum (λ _. 1) es ≡ length es
 heap_count [] = refl
 heap_count (e ∷ es) =
-    let more = sum_by-cons (λ (e : Entry). 1) e es in
+    let more = sum_by-cons (λ (e : HeapTurn). 1) e es in
     let behind = heap_count es in
     omega (arith, more, behind)
 
@@ -21,7 +21,7 @@ room_by None place len more room h r = tt
 room_by (Some n) place len more room h r = omega arith
 
 -- where one agent gets a turn there is room for it
-pub room_to_open : (es : List Entry) (old new : List AgentData) (place len room : ℕ)
+pub room_to_open : (es : List HeapTurn) (old new : List AgentData) (place len room : ℕ)
     (number : Option ℕ) → HasTurns es old → OpensAt place number old new → len ≡ length es
     → length new ≤ room → IfSome number (λ _. len < room)
 room_to_open es old new place len room number h o l r =
@@ -32,7 +32,7 @@ room_to_open es old new place len room number h o l r =
     room_by number place len (length new) room (omega (arith, all, there, many, counted)) r
 
 -- and then the heap has the turns again
-pub turns_opened : (es fs : List Entry) (old new : List AgentData) (place : ℕ) (number : Option ℕ)
+pub turns_opened : (es fs : List HeapTurn) (old new : List AgentData) (place : ℕ) (number : Option ℕ)
     → HasTurns es old → OpensAt place number old new
     → ((f : ActionTurn → ℕ) → heap_sum f fs
     ≡ weight f (option_map (turn_at place) number) + heap_sum f es)

@@ -14,9 +14,9 @@ use Rattle.repl_values.specs.Failure.{Failure}
 use Rattle.private_cells.specs.Agents.{AgentData, AgentsData, SentAction, ActionTurn, turn_by}
 use Rattle.private_cells.specs.Agents.{action_turn}
 use Rattle.private_cells.specs.Agents.{earlier, earliest, runs_action, next_turn}
-use Rattle.private_cells.specs.Inside.Turns.{Entry, turn_in, turn_at, weight, open_sum, heap_sum}
+use Rattle.private_cells.specs.Inside.Turns.{HeapTurn, turn_in, turn_at, weight, open_sum, heap_sum}
 use Rattle.private_cells.specs.Inside.Turns.{HasTurns, IsFirst, IsThere, open_turn, open_by}
-use Rattle.private_cells.specs.Inside.Turns.{open_in}
+use Rattle.private_cells.specs.Inside.Turns.{open_turn_of}
 use Rattle.private_cells.specs.Inside.Turns.{open_at}
 use Rattle.private_cells.specs.Inside.Kept.{runs_at}
 
@@ -80,16 +80,16 @@ by_order t u h =
     }
 
 -- what is in a heap comes behind what is first there
-in_heap : (t : ℕ × ℕ) (u : ActionTurn) (es : List Entry) → IsFirst t es
+in_heap : (t : ℕ × ℕ) (u : ActionTurn) (es : List HeapTurn) → IsFirst t es
     → 1 ≤ heap_sum (one_for u) es → NotBehind (turn_at t.1 t.0) u
 in_heap t u [] first h = absurd (omega arith)
 in_heap t u (e ∷ es) first h =
-    let sums = sum_by-cons (λ (e : Entry). one_for u (turn_in e)) e es in
+    let sums = sum_by-cons (λ (e : HeapTurn). one_for u (turn_in e)) e es in
     let one = one_of (one_for u (turn_in e)) (heap_sum (one_for u) es) (omega (arith, sums, h)) in
     heap_step t u e one (by_order (turn_at t.1 t.0) (turn_in e) first.0)
     (λ rest. in_heap t u es first.1 rest)
   where
-    heap_step : (t : ℕ × ℕ) (u : ActionTurn) (e : Entry) {m : ℕ}
+    heap_step : (t : ℕ × ℕ) (u : ActionTurn) (e : HeapTurn) {m : ℕ}
         → (1 ≤ one_for u (turn_in e)) ⊎ (1 ≤ m) → NotBehind (turn_at t.1 t.0) (turn_in e)
         → (1 ≤ m → NotBehind (turn_at t.1 t.0) u) → NotBehind (turn_at t.1 t.0) u
     heap_step t u e (inl here) now behind =
@@ -117,7 +117,7 @@ still p (Some r) f xs h = absurd (let no : ⊥ = cc in no)
 pub record Stands (t : ActionTurn) (p : ℕ) (xs : List AgentData) : Type 0 where
   pub place : ℕ
   pub is : t.agent ≡ p + place
-  pub there : open_in t.agent (slice_get xs place) ≡ Some t
+  pub there : open_turn_of t.agent (slice_get xs place) ≡ Some t
 
 stands_by : (t : ActionTurn) (p : ℕ) (a : AgentData) (xs : List AgentData) {m : ℕ}
     → (1 ≤ weight (one_for t) (open_turn p a)) ⊎ (1 ≤ m) → (1 ≤ m → Stands t (suc p) xs)
@@ -256,7 +256,7 @@ some_running (suc n) (a ∷ xs) h =
     ap (λ b. runs_action a || b) (some_running n xs h) ∙ either (runs_action a)
 
 -- what comes first in the heap, while no action runs
-pub next_is : (es : List Entry) (s : AgentsData) (t : ℕ × ℕ) → HasTurns es s.agents
+pub next_is : (es : List HeapTurn) (s : AgentsData) (t : ℕ × ℕ) → HasTurns es s.agents
     → ((j : ℕ) → runs_at j s.agents ≡ false) → IsThere t es → IsFirst t es
     → next_turn s ≡ Some (turn_at t.1 t.0)
 next_is es s t h k there first =
@@ -269,7 +269,7 @@ next_is es s t h k there first =
     (λ u more. let all = h (one_for u) in in_heap t u es first (omega (arith, more, all)))
 
 -- the agent whose turn it is may begin
-pub next_open : (es : List Entry) (xs : List AgentData) (t : ℕ × ℕ) → HasTurns es xs
+pub next_open : (es : List HeapTurn) (xs : List AgentData) (t : ℕ × ℕ) → HasTurns es xs
     → IsThere t es → open_at t.1 xs ≡ Some (turn_at t.1 t.0)
 next_open es xs t h there =
     let turn = turn_at t.1 t.0 in
@@ -278,14 +278,14 @@ next_open es xs t h there =
     let same = h (one_for turn) in
     let it = stands turn 0 xs (omega (arith, itself, held, same)) in
     let place : it.place ≡ t.1 = omega (arith, it.is) in
-    ap (λ i. open_in t.1 (slice_get xs i)) (sym place) ∙ it.there
+    ap (λ i. open_turn_of t.1 (slice_get xs i)) (sym place) ∙ it.there
 
 none_earliest : (o : Option ActionTurn) → ((y : ActionTurn) → o ≡ Some y → ⊥) → o ≡ None
 none_earliest None h = refl
 none_earliest (Some y) h = absurd (h y refl)
 
 -- where the heap is empty there is no next turn
-pub next_none : (es : List Entry) (s : AgentsData) → HasTurns es s.agents
+pub next_none : (es : List HeapTurn) (s : AgentsData) → HasTurns es s.agents
     → ((j : ℕ) → runs_at j s.agents ≡ false) → es ≡ [] → next_turn s ≡ None
 next_none es s h k e =
     ap (λ b. if b then None else earliest 0 s.agents) (none_running s.agents k)

@@ -10,7 +10,7 @@ use Rattle.repl_values.specs.Failure.{Failure}
 use Rattle.private_cells.specs.Actions.{is_of}
 use Rattle.private_cells.specs.Agents.{AgentData, AgentsData, SentAction, ActionTurn, next_turn}
 use Rattle.private_cells.specs.Agents.{earliest, restarted}
-use Rattle.private_cells.specs.Inside.Turns.{open_by, open_in, open_at}
+use Rattle.private_cells.specs.Inside.Turns.{open_by, open_turn_of, open_at}
 use Rattle.private_cells.specs.Inside.Kept.{waiting_in, waiting_at, count_from, runs_at, is_place}
 use Rattle.private_cells.specs.Inside.Kept.{RunsAlone}
 use Rattle.private_cells.proofs.Next.{some_running}
@@ -51,7 +51,7 @@ waits_by p None (Some f) xs t h = absurd (let no : ⊥ = cc in no)
 waits_by p None None [] t h = absurd (let no : ⊥ = cc in no)
 waits_by p None None (x ∷ xs) t h = record { first = x; rest = xs; is = refl }
 
-waits_in : (p : ℕ) (o : Option AgentData) (t : ActionTurn) → open_in p o ≡ Some t
+waits_in : (p : ℕ) (o : Option AgentData) (t : ActionTurn) → open_turn_of p o ≡ Some t
     → FirstWaits (waiting_in o)
 waits_in p None t h = absurd (let no : ⊥ = cc in no)
 waits_in p (Some a) t h = waits_by p a.running a.fault a.waiting t h

@@ -7,7 +7,7 @@ ghost use Rattle.private_cells.specs.Agents.{ActionTurn, with_begun, restarted};
 ghost use Rattle.private_cells.specs.Inside.Seen.{cells_view, sent_view};
 ghost use Rattle.private_cells.specs.Inside.Turns.{turn_at, open_at, open_sum, first_session};
 ghost use Rattle.private_cells.specs.Inside.Kept.{waiting_at, runs_at};
-ghost use Rattle.private_cells.specs.Inside.Changes.{with_these, with_state, with_fault, OpensAt};
+ghost use Rattle.private_cells.specs.Inside.Changes.{with_these, with_agent_state, with_fault, OpensAt};
 
 use crate::action::Sent;
 use crate::cells::Cell;
@@ -52,7 +52,7 @@ pub(crate) fn begin_at(cells: &mut Vec<Cell>, number: u64, first: u128) -> Optio
 pub(crate) fn finish_at(cells: &mut Vec<Cell>, number: u64, value: Value) -> Option<u128>
     requires { runs_at number (cells_view cells.old.items) ≡ true }
     ensures over { cells_view cells.new.items
-        ≡ changed_at number (with_state (view value)) (cells_view cells.old.items) }
+        ≡ changed_at number (with_agent_state (view value)) (cells_view cells.old.items) }
     ensures len { length cells.new.items ≡ length cells.old.items }
     ensures opened { OpensAt number result
         (cells_view cells.old.items) (cells_view cells.new.items) }

@@ -17,8 +17,8 @@ use Rattle.ref_table.specs.Store.{Store, left_attempt}
 use Rattle.ref_table.specs.Calls.{performed, given_up}
 use Rattle.server_rules.specs.Ground.{Ground}
 use Rattle.server_rules.specs.Request.{Waiting, Manner, each_form, each_form_elsewhere, last_form}
-use Rattle.server_rules.specs.Request.{of_action, ProgramText, code, file, Hand, Run}
-use Rattle.server_rules.specs.Tenant.{ActorData, seat_of, Quiet, is_held, with_actor, with_state}
+use Rattle.server_rules.specs.Request.{of_action, ProgramText, code, file, WorkInHand, Run}
+use Rattle.server_rules.specs.Tenant.{ActorData, seat_of, TenantState, is_held, with_actor, with_state}
 use Rattle.server_rules.specs.Tenant.{actor_state}
 use Rattle.server_rules.specs.Moves.{Move, closing_move, going_on, result_noted, form_loaded}
 use Rattle.server_rules.specs.Moves.{form_ended_as, form_ended}
@@ -30,7 +30,7 @@ use Rattle.server_rules.specs.Starting.{namespace_there, elsewhere_begun, text_b
 use Rattle.server_rules.specs.Starting.{after_move, start_outcome, interrupted_in, held_or}
 use Rattle.server_rules.specs.Starting.{start_in_hand, start_waiting, start_action, action_for}
 use Rattle.server_rules.specs.Starting.{action_begun, with_action_begun}
-use Rattle.server_rules.specs.Asking.{call_of, may_ask, is_allowed, answer_to, session_of}
+use Rattle.server_rules.specs.Asking.{call_of, may_ask, is_allowed, answer_to, session_number}
 use Rattle.server_rules.specs.Asking.{ask_outcome, answer_outcome, when_told, asked_allowed}
 use Rattle.server_rules.specs.Asking.{asked_running, asked_of}
 use Rattle.server_rules.specs.Cells.{CellsData, NextAction, must_wait}
@@ -55,7 +55,7 @@ IsFresh None = ⊤
 IsFresh (Some form) = form.trace ≡ []
 
 -- The actor's form asked, and has this form and this read point then.
-pub record AskedBy (g : Ground) (a : Actor) (q : Quiet) (s : Store) (d : Deed) (f : Option Run)
+pub record AskedBy (g : Ground) (a : Actor) (q : TenantState) (s : Store) (d : Deed) (f : Option Run)
     (p : Option ℕ) : Type 0 where
   pub form : Run
   pub runs : running_in a q ≡ Some form
@@ -68,7 +68,7 @@ pub record AskedBy (g : Ground) (a : Actor) (q : Quiet) (s : Store) (d : Deed) (
       : p ≡ part_under (seat_of a) (performed s (call_of (seat_of a) ask)).store.mine.points
 
 -- the form and the point are as they were, or a form begins, or the form is over, or it asked
-abbrev pub Moves : Ground → Actor → Quiet → Store → Deed → Option Run → Option ℕ → Type 0
+abbrev pub Moves : Ground → Actor → TenantState → Store → Deed → Option Run → Option ℕ → Type 0
 Moves g a q s d f p =
     ((f ≡ running_in a q) × (p ≡ part_under (seat_of a) s.mine.points))
     ⊎ (((running_in a q ≡ None) × IsFresh f × (p ≡ part_under (seat_of a) s.mine.points))
@@ -79,7 +79,7 @@ abbrev pub Leaves : (Option Run → Option ℕ → Type 0) → Actor → Store �
 Leaves P a new (refuses why) = ⊤
 Leaves P a new (leaves q answer) = P (running_in a q) (part_under (seat_of a) new.mine.points)
 
-abbrev Comes : Ground → Actor → Quiet → Store → Deed → Plan → Type 0
+abbrev Comes : Ground → Actor → TenantState → Store → Deed → Plan → Type 0
 Comes g a q s d p =
     Leaves (Moves g a q s d) a (performed s p.call).store (p.next (performed s p.call).told)
 
@@ -100,14 +100,14 @@ pub gone-other : (m n : ℕ) (es : List (Entry ActorData)) → m ≢ n
     → runs_at m (without n es) ≡ runs_at m es
 gone-other m n es apart = ap running_of (part_under-without m n es apart)
 
-with_state-actors : (a : Actor) (state : StateData) (q : Quiet)
+with_state-actors : (a : Actor) (state : StateData) (q : TenantState)
     → (with_state a state q).actors ≡ q.actors
 with_state-actors Actor.Agents state q = refl
 with_state-actors Actor.Bare state q = refl
 with_state-actors (Actor.Session n) state q = refl
 
 -- what an actor runs behind a move of another or of itself
-pub moved-runs : (a b : Actor) (actor : ActorData) (m : Move) (q : Quiet)
+pub moved-runs : (a b : Actor) (actor : ActorData) (m : Move) (q : TenantState)
     → running_in a (with_step_spent (after_move b actor m q))
     ≡ runs_at (seat_of a) (with_part (seat_of b) (record actor { hand = m.hand }) q.actors)
 moved-runs a b actor m q = ap (λ es. runs_at (seat_of a) es)
@@ -144,7 +144,7 @@ fresh-by (Some form) all = all form refl
 begun-fresh : (st : Started) → HasBegun st → IsFresh (option_and_then (λ h. h.running) st.move.hand)
 begun-fresh st begun = fresh-by _ (λ form is. (begun form is).1)
 
-next-begun-so : (g : Ground) (h : Hand) (state : StateData) (forms : Items)
+next-begun-so : (g : Ground) (h : WorkInHand) (state : StateData) (forms : Items)
     → HasBegun (next_begun g h state forms)
 next-begun-so g h state no_items = not-begun (next_begun g h state no_items)
     (closing-none h.origin h.manner h.fault state)
@@ -157,7 +157,7 @@ program-begun-so g origin manner namespace state text =
     next-begun-so g (hand_of origin manner namespace (g.readings.program text)) state
     (g.readings.program text).forms
 
-text-begun-so : (g : Ground) (q : Quiet) (origin : OriginData) (state : StateData)
+text-begun-so : (g : Ground) (q : TenantState) (origin : OriginData) (state : StateData)
     (text : ProgramText) → HasBegun (text_begun g q.spaces origin state text)
 text-begun-so g q origin state (file text) =
     program-begun-so g origin (last_form nil) state.namespace state text
@@ -170,12 +170,12 @@ text-begun-so g q origin state (code text (Some ns)) =
     by None = not-begun (elsewhere_begun g origin text state None) refl
     by (Some name) = program-begun-so g origin each_form_elsewhere name state text
 
-going-none : (h : Hand) (forms : Items) (state : StateData)
+going-none : (h : WorkInHand) (forms : Items) (state : StateData)
     → option_and_then (λ x. x.running) (going_on h forms state).hand ≡ None
 going-none h no_items state = closing-none h.origin h.manner h.fault state
 going-none h (item d ds) state = refl
 
-pub ended-none : (h : Hand) (e : EndData) (state : StateData)
+pub ended-none : (h : WorkInHand) (e : EndData) (state : StateData)
     → option_and_then (λ x. x.running) (form_ended h e state).hand ≡ None
 unfolding form_ended
 ended-none h e state = by h.manner
@@ -209,10 +209,10 @@ found-by P (Some actor) p none all = all actor refl
 abbrev pub Refused : (Plan → Type 0) → Type 0
 Refused P = (why : Refusal) → P (quietly (refuses why))
 
-abbrev pub There : Actor → Quiet → ActorData → Type 0
+abbrev pub There : Actor → TenantState → ActorData → Type 0
 There b q actor = part_under (seat_of b) q.actors ≡ Some actor
 
-module _ (P : Plan → Type 0) (g : Ground) (b : Actor) (q : Quiet) (none : Refused P) where
+module _ (P : Plan → Type 0) (g : Ground) (b : Actor) (q : TenantState) (none : Refused P) where
   held-by : (o : Outcome) → P (quietly o) → P (quietly (held_or q o))
   held-by o h = either (λ x. P (quietly x)) (is_held q) (refuses Refusal.Held) o
       (none Refusal.Held) h
@@ -226,13 +226,13 @@ module _ (P : Plan → Type 0) (g : Ground) (b : Actor) (q : Quiet) (none : Refu
       → option_and_then (λ h. h.running) old.hand ≡ None → (st : Started) → HasBegun st
       → (c : CellsData) → P (quietly (start_outcome b actor st (record q { cells = c }))))
       (interrupted : (actor : ActorData) → There b q actor
-      → option_and_then (λ h. h.running) actor.hand ≡ None → (h : Hand)
+      → option_and_then (λ h. h.running) actor.hand ≡ None → (h : WorkInHand)
       → P (quietly (interrupted_in b h q))) where
     action-by : (actor : ActorData) → There b q actor → actor.hand ≡ None
         → (next : Option NextAction) → P (quietly (start_action g b actor q next))
     action-by actor there idle None = none Refusal.Idle
     action-by actor there idle (Some next) =
-        let later : Quiet = with_action_begun q in
+        let later : TenantState = with_action_begun q in
         held-by (start_outcome b actor (action_begun g next) later) (begun actor actor there
         (ap (option_and_then (λ h. h.running)) idle) (action_begun g next)
         (so-begun (action_begun g next) _ refl refl refl) later.cells)
@@ -247,7 +247,7 @@ module _ (P : Plan → Type 0) (g : Ground) (b : Actor) (q : Quiet) (none : Refu
         (ap (option_and_then (λ h. h.running)) idle) st
         (text-begun-so g q x.origin (first_state b q) x.text) q.cells)
 
-    in_hand-by : (actor : ActorData) → There b q actor → (h : Hand) → actor.hand ≡ Some h
+    in_hand-by : (actor : ActorData) → There b q actor → (h : WorkInHand) → actor.hand ≡ Some h
         → (runs : Bool) → is_some h.running ≡ runs → P (quietly (start_in_hand g b actor h q runs))
     in_hand-by actor there h in_hand true runs = none Refusal.Idle
     in_hand-by actor there h in_hand false idle =
@@ -264,7 +264,7 @@ module _ (P : Plan → Type 0) (g : Ground) (b : Actor) (q : Quiet) (none : Refu
         none-there None e = refl
         none-there (Some form) e = absurd (cc)
 
-    start-by : (actor : ActorData) → There b q actor → (h : Option Hand) → actor.hand ≡ h
+    start-by : (actor : ActorData) → There b q actor → (h : Option WorkInHand) → actor.hand ≡ h
         → P (quietly (start_of g b actor q h))
     start-by actor there None is = waiting-by actor there is actor.waiting
     start-by actor there (Some h) is = in_hand-by actor there h is (is_some h.running) refl
@@ -273,24 +273,24 @@ module _ (P : Plan → Type 0) (g : Ground) (b : Actor) (q : Quiet) (none : Refu
     starts-by t = actor-by (λ actor. quietly (start_of g b actor q actor.hand))
         (λ actor there. start-by actor there actor.hand refl)
 
-  module _ (ask : AskData) (closed : (actor : ActorData) → There b q actor → (h : Hand)
+  module _ (ask : AskData) (closed : (actor : ActorData) → There b q actor → (h : WorkInHand)
       → P (closed_plan b h ask q))
-      (open_for : (actor : ActorData) → There b q actor → (h : Hand) → actor.hand ≡ Some h
+      (open_for : (actor : ActorData) → There b q actor → (h : WorkInHand) → actor.hand ≡ Some h
       → (form : Run) → h.running ≡ Some form → P (open_plan g b actor h form ask q)) where
-    allowed-by : (actor : ActorData) → There b q actor → (h : Hand) → actor.hand ≡ Some h
+    allowed-by : (actor : ActorData) → There b q actor → (h : WorkInHand) → actor.hand ≡ Some h
         → (form : Run) → h.running ≡ Some form → P (asked_allowed g b actor h form ask q)
     allowed-by actor there h in_hand form runs = either P actor.is_closed (closed_plan b h ask q)
         (open_plan g b actor h form ask q) (closed actor there h)
         (open_for actor there h in_hand form runs)
 
-    running-by : (actor : ActorData) → There b q actor → (h : Hand) → actor.hand ≡ Some h
+    running-by : (actor : ActorData) → There b q actor → (h : WorkInHand) → actor.hand ≡ Some h
         → (form : Option Run) → h.running ≡ form → P (asked_running g b actor h ask q form)
     running-by actor there h in_hand None runs = none Refusal.Idle
     running-by actor there h in_hand (Some form) runs =
         either P (may_ask b ask && is_allowed ask q.cells) _ _
         (allowed-by actor there h in_hand form runs) (none Refusal.Idle)
 
-    hand-by : (actor : ActorData) → There b q actor → (h : Option Hand) → actor.hand ≡ h
+    hand-by : (actor : ActorData) → There b q actor → (h : Option WorkInHand) → actor.hand ≡ h
         → P (asked_of g b actor ask q h)
     hand-by actor there None is = none Refusal.Idle
     hand-by actor there (Some h) is = running-by actor there h is h.running refl
@@ -299,17 +299,17 @@ module _ (P : Plan → Type 0) (g : Ground) (b : Actor) (q : Quiet) (none : Refu
     asks-by t = actor-by (λ actor. asked_of g b actor ask q actor.hand)
         (λ actor there. hand-by actor there actor.hand refl)
 
-  module _ (e : EndingData) (over : (actor : ActorData) → There b q actor → (h : Hand)
+  module _ (e : EndingData) (over : (actor : ActorData) → There b q actor → (h : WorkInHand)
       → P (with_left_attempt b (interrupted_in b h q)))
-      (ended : (actor : ActorData) → There b q actor → (h : Hand) (form : Run)
+      (ended : (actor : ActorData) → There b q actor → (h : WorkInHand) (form : Run)
       → P (end_accepted b actor h form e q)) where
-    compared-by : (actor : ActorData) → There b q actor → (h : Hand) (form : Run) (same : Bool)
+    compared-by : (actor : ActorData) → There b q actor → (h : WorkInHand) (form : Run) (same : Bool)
         (difference : Option ℕ) → P (end_compared b actor h form e q same difference)
     compared-by actor there h form false difference = none (Refusal.TraceMismatch 0)
     compared-by actor there h form true (Some place) = none (Refusal.TraceMismatch place)
     compared-by actor there h form true None = ended actor there h form
 
-    ending-by : (actor : ActorData) → There b q actor → (h : Hand) (form : Option Run)
+    ending-by : (actor : ActorData) → There b q actor → (h : WorkInHand) (form : Option Run)
         → P (end_running g b actor h e q form)
     ending-by actor there h None = none Refusal.Idle
     ending-by actor there h (Some form) = either P actor.is_closed _ _ (over actor there h)
@@ -317,7 +317,7 @@ module _ (P : Plan → Type 0) (g : Ground) (b : Actor) (q : Quiet) (none : Refu
         (compared-by actor there h form (g.comparisons.is_same_job e.job form.job)
         (g.comparisons.difference e.trace form.trace)))
 
-    end-by : (actor : ActorData) → There b q actor → (h : Option Hand)
+    end-by : (actor : ActorData) → There b q actor → (h : Option WorkInHand)
         → P (end_of g b actor e q h)
     end-by actor there None = none Refusal.Idle
     end-by actor there (Some h) = ending-by actor there h h.running
@@ -328,7 +328,7 @@ module _ (P : Plan → Type 0) (g : Ground) (b : Actor) (q : Quiet) (none : Refu
 
 -- Deeds of the actor
 
-module _ (g : Ground) (a : Actor) (q : Quiet) (s : Store) where
+module _ (g : Ground) (a : Actor) (q : TenantState) (s : Store) where
   stays : (d : Deed) (f : Option Run) (p : Option ℕ) → f ≡ running_in a q
       → p ≡ part_under (seat_of a) s.mine.points → Moves g a q s d f p
   stays d f p same here = inl (same, here)
@@ -354,7 +354,7 @@ module _ (g : Ground) (a : Actor) (q : Quiet) (s : Store) where
       (gone-mine (seat_of a) q.actors ∙ sym (idle actor there none)) refl)
       t
 
-  interrupted-mine : (d : Deed) (h : Hand)
+  interrupted-mine : (d : Deed) (h : WorkInHand)
       → Leaves (Moves g a q s d) a (left_attempt (seat_of a) s) (interrupted_in a h q)
   interrupted-mine d h =
       is_over d _ _ (gone-mine (seat_of a) q.actors) (gone (seat_of a) s.mine.points)
@@ -376,13 +376,13 @@ module _ (g : Ground) (a : Actor) (q : Quiet) (s : Store) where
       asked actor there h in_hand form runs (performed s (call_of (seat_of a) ask)).told refl)
       t
     where
-      closed : (h : Hand) (o : Option AnswerData)
+      closed : (h : WorkInHand) (o : Option AnswerData)
           → Leaves (Moves g a q s (asks_for a ask)) a (given_up (seat_of a) s o).store
           (when_told (given_up (seat_of a) s o).told (λ _. interrupted_in a h q))
       closed h None = tt
       closed h (Some v) = interrupted-mine (asks_for a ask) h
 
-      asked : (actor : ActorData) → There a q actor → (h : Hand) → actor.hand ≡ Some h
+      asked : (actor : ActorData) → There a q actor → (h : WorkInHand) → actor.hand ≡ Some h
           → (form : Run) → h.running ≡ Some form → (o : Option AnswerData)
           → (performed s (call_of (seat_of a) ask)).told ≡ o
           → Leaves (Moves g a q s (asks_for a ask)) a (performed s (call_of (seat_of a) ask)).store
@@ -393,7 +393,7 @@ module _ (g : Ground) (a : Actor) (q : Quiet) (s : Store) where
           let new : ActorData = record actor { hand = Some (record h { running = Some more }) } in
           either
           (Leaves (Moves g a q s (asks_for a ask)) a (performed s (call_of (seat_of a) ask)).store)
-          (must_wait (session_of a) ask q.cells) (refuses Refusal.Waiting)
+          (must_wait (session_number a) ask q.cells) (refuses Refusal.Waiting)
           (ask_outcome g a actor h form ask q v) tt (inr (inr (inr (record {
             form = form;
             runs = ap running_of there ∙ ap (option_and_then (λ x. x.running)) in_hand ∙ runs;
@@ -407,7 +407,7 @@ module _ (g : Ground) (a : Actor) (q : Quiet) (s : Store) where
 
 -- Deeds of others
 
-module _ (g : Ground) (a b : Actor) (q : Quiet) (s : Store) (apart : seat_of a ≢ seat_of b) where
+module _ (g : Ground) (a b : Actor) (q : TenantState) (s : Store) (apart : seat_of a ≢ seat_of b) where
   moved-other : (d : Deed) (actor old : ActorData) (m : Move) → There b q old → (p : Option ℕ)
       → p ≡ part_under (seat_of a) s.mine.points → (c : CellsData)
       → Moves g a q s d (running_in a (with_step_spent (after_move b actor m (record q { cells = c })))) p
@@ -420,7 +420,7 @@ module _ (g : Ground) (a b : Actor) (q : Quiet) (s : Store) (apart : seat_of a �
       ≡ part_under (seat_of a) s.mine.points
   left-other = part_under-without (seat_of a) (seat_of b) s.mine.points apart
 
-  interrupted-other : (d : Deed) (h : Hand) (new : Store)
+  interrupted-other : (d : Deed) (h : WorkInHand) (new : Store)
       → part_under (seat_of a) new.mine.points ≡ part_under (seat_of a) s.mine.points
       → Leaves (Moves g a q s d) a new (interrupted_in b h q)
   interrupted-other d h new here =
@@ -446,14 +446,14 @@ module _ (g : Ground) (a b : Actor) (q : Quiet) (s : Store) (apart : seat_of a �
       asked actor there h form (performed s (call_of (seat_of b) ask)).told refl)
       t
     where
-      closed : (h : Hand) (o : Option AnswerData)
+      closed : (h : WorkInHand) (o : Option AnswerData)
           → Leaves (Moves g a q s (asks_for b ask)) a (given_up (seat_of b) s o).store
           (when_told (given_up (seat_of b) s o).told (λ _. interrupted_in b h q))
       closed h None = tt
       closed h (Some v) =
           interrupted-other (asks_for b ask) h (left_attempt (seat_of b) s) left-other
 
-      asked : (actor : ActorData) → There b q actor → (h : Hand) (form : Run)
+      asked : (actor : ActorData) → There b q actor → (h : WorkInHand) (form : Run)
           (o : Option AnswerData) → (performed s (call_of (seat_of b) ask)).told ≡ o
           → Leaves (Moves g a q s (asks_for b ask)) a (performed s (call_of (seat_of b) ask)).store
           (when_told o (answer_outcome g b actor h form ask q))
@@ -463,7 +463,7 @@ module _ (g : Ground) (a b : Actor) (q : Quiet) (s : Store) (apart : seat_of a �
           let new : ActorData = record actor { hand = Some (record h { running = Some more }) } in
           either
           (Leaves (Moves g a q s (asks_for b ask)) a (performed s (call_of (seat_of b) ask)).store)
-          (must_wait (session_of b) ask q.cells) (refuses Refusal.Waiting)
+          (must_wait (session_number b) ask q.cells) (refuses Refusal.Waiting)
           (ask_outcome g b actor h form ask q v) tt (stays g a q s (asks_for b ask) _ _
           (put-other (seat_of a) (seat_of b) new actor q.actors apart there)
           (asked-others (seat_of a) (seat_of b) ask v s apart told))
@@ -482,7 +482,7 @@ seat-same (Actor.Session n) Actor.Bare e = absurd (omega (arith, e))
 seat-same (Actor.Session n) (Actor.Session m) e =
     let same : n ≡ m = omega (arith, e) in ap (λ k. Actor.Session k) same
 
-pub plan-moves : (g : Ground) (a : Actor) (q : Quiet) (s : Store) (t : ℕ) (d : Deed)
+pub plan-moves : (g : Ground) (a : Actor) (q : TenantState) (s : Store) (t : ℕ) (d : Deed)
     → Comes g a q s d (plan g t q d)
 plan-moves g a q s t (hears piece) =
     either (Leaves (Moves g a q s (hears piece)) a s) (q.steps == 0) _ _ tt

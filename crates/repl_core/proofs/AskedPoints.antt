@@ -225,7 +225,7 @@ module _ (w : World) (t seat : ℕ) (kept : TenantData) (there : open_in t w ≡
 
   pub asked-point : (g : Ground) (a : Actor) (ask : AskData) (told : AnswerData)
       → (performed s (call_of seat ask)).told ≡ Some told
-      → PointAfter w ask (answer_to g a kept.quiet ask told) (part_under seat kept.mine.points)
+      → PointAfter w ask (answer_to g a kept.state ask told) (part_under seat kept.mine.points)
       (part_under seat (performed s (call_of seat ask)).store.mine.points)
   asked-point g a begin told e = begin-point told (part_under seat kept.mine.points) e
   asked-point g a (read name) told e =

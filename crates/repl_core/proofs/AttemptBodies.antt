@@ -13,7 +13,7 @@ use Rattle.repl_walker.specs.Attempts.{answers_in, AsksThese, IsUnderWay, IsDivi
 use Rattle.repl_walker.specs.Standing.{Standing, attempt_of, standing_after}
 use Rattle.repl_walker.proofs.Attempts.{divides}
 use Rattle.repl_walker.proofs.Leading.{leads-as-tree_after}
-use Rattle.repl_core.specs.AttemptsUnderWay.{begun, is_within}
+use Rattle.repl_core.specs.AttemptsUnderWay.{begun_attempt, is_within}
 
 abbrev Within : List Exchanged → Type 0
 Within xs = AllByRecursion (λ x. is_within x.ask ≡ true) xs
@@ -59,7 +59,7 @@ left-none more body next retried kept s rest end leads within =
 
 pub body-asks : (more : ℕ) (body : Doing) (next : Datum → Kept → Doing) (last : Kept)
     (printed : List ℕ) (xs : List Exchanged)
-    → AreItsAsks (written_tree printed (attempts (suc more) body next last)) (begun ∷ xs)
+    → AreItsAsks (written_tree printed (attempts (suc more) body next last)) (begun_attempt ∷ xs)
     → AllByRecursion (λ x. is_within x.ask ≡ true) xs
     → AsksThese (standing_after printed [] body) xs
 body-asks more body next last printed xs all within =

@@ -23,7 +23,7 @@ use Rattle.tenant_world.specs.Running.{running_in}
 use Rattle.repl_core.specs.Standing.{store_in}
 use Rattle.repl_core.specs.Commits.{refs_in, ref_in_world, point_in}
 use Rattle.repl_core.specs.Points.{held_at, shared_ref, reading_of, bound_told, told_at}
-use Rattle.repl_core.specs.AttemptsUnderWay.{form_in, begun, is_within, UnderWay}
+use Rattle.repl_core.specs.AttemptsUnderWay.{form_in, begun_attempt, is_within, UnderWay}
 use Rattle.repl_core.specs.AttemptsUnderWay.{PointsAreOfAttempts, AttemptsAreToldTheirPoint}
 use Rattle.repl_core.proofs.SharedRefs.{shown_at, ShowsAt, step-shows}
 use Rattle.repl_core.proofs.AskedPoints.{is-shared, PointAfter, asked-point}
@@ -124,7 +124,7 @@ told-behind told (y ∷ ys) x all is = (all.0, told-behind told ys x all.1 is)
 record ToldSince (w : World) (point : ℕ) (trace : List Exchanged) : Type 0 where
   before : List Exchanged
   since : List Exchanged
-  parted : trace ≡ before ++ begun ∷ since
+  parted : trace ≡ before ++ begun_attempt ∷ since
   within : AllByRecursion (λ x. is_within x.ask ≡ true) since
   told : AreToldBy (told_at point w) since
 
@@ -165,7 +165,7 @@ asked-stands w v o p form ask answer shows stands (inl none) =
     subst (λ k. Stands v k (Some (run_with (exchange_from ask answer) form))) (sym none) tt
 asked-stands w v o p form ask answer shows stands (inr (inl begins)) =
     let x : Exchanged = exchange_from ask answer in
-    let is : x ≡ begun = ap (λ y. exchange_from y answer) begins.0
+    let is : x ≡ begun_attempt = ap (λ y. exchange_from y answer) begins.0
     ∙ ap (λ y. exchange_from begin y) begins.1 in
     let same = shows w.around.counter (omega arith) in
     subst (λ k. Stands v k (Some (run_with x form))) (sym begins.2) (
@@ -189,7 +189,7 @@ asked-stands w v o p form ask answer shows stands (inr (inr on)) =
         before = it.before;
         since = it.since ++ x ∷ [];
         parted = ap (λ xs. xs ++ x ∷ []) it.parted
-            ∙ append_assoc it.before (begun ∷ it.since) (x ∷ []);
+            ∙ append_assoc it.before (begun_attempt ∷ it.since) (x ∷ []);
         within = all-behind (λ y. is_within y.ask ≡ true) it.since x it.within on.within;
         told = told-later on.point w v (it.since ++ x ∷ []) same
             (told-behind (told_at on.point w) it.since x it.told on.told);
@@ -217,11 +217,11 @@ step-stands g w s t a stands = by (step-moves g w s t a)
     asked : Asks g w s (step g w s) t a → Stands v (point_in t a v) (form_in t a v)
     asked it =
         let ask = it.asked.ask in
-        let answer = answer_to g a it.kept.quiet ask it.asked.told in
+        let answer = answer_to g a it.kept.state ask it.asked.told in
         let seat = seat_of a in
         let old = part_under seat it.kept.mine.points in
         let runs : form_in t a w ≡ Some it.asked.form =
-        ap (option_and_then (λ kept. running_in a kept.quiet)) it.there ∙ it.asked.runs in
+        ap (option_and_then (λ kept. running_in a kept.state)) it.there ∙ it.asked.runs in
         let began : point_in t a w ≡ old =
         ap (option_and_then (λ kept. part_under seat kept.mine.points)) it.there in
         let before = subst (λ k. Stands w k (Some it.asked.form)) began
@@ -276,13 +276,13 @@ points-of-attempts g steps t a point began =
 abbrev Within : List Exchanged → Type 0
 Within xs = AllByRecursion (λ x. is_within x.ask ≡ true) xs
 
-begun-within : (before xs : List Exchanged) → Within (before ++ begun ∷ xs) → ⊥
+begun-within : (before xs : List Exchanged) → Within (before ++ begun_attempt ∷ xs) → ⊥
 begun-within [] xs all = true≢false (sym all.0)
 begun-within (x ∷ before) xs all = begun-within before xs all.1
 
 -- a trace has one last begin
 same-since : (before other xs ys : List Exchanged)
-    → before ++ begun ∷ xs ≡ other ++ begun ∷ ys → Within xs → Within ys → xs ≡ ys
+    → before ++ begun_attempt ∷ xs ≡ other ++ begun_attempt ∷ ys → Within xs → Within ys → xs ≡ ys
 same-since [] [] xs ys same h k = ap (drop 1) same
 same-since [] (y ∷ other) xs ys same h k =
     absurd (begun-within other ys (subst Within (ap (drop 1) same) h))

@@ -19,7 +19,7 @@ use Rattle.server_rules.specs.Ground.{Ground}
 use Rattle.server_rules.specs.Machine.World.{World, Step, opened_world, run}
 use Rattle.server_rules.specs.declared.actor.Actor.{Actor}
 use Rattle.repl_core.specs.Points.{shared_ref, told_at}
-use Rattle.repl_core.specs.AttemptsUnderWay.{begun, UnderWay}
+use Rattle.repl_core.specs.AttemptsUnderWay.{begun_attempt, UnderWay}
 use Rattle.repl_core.specs.HonestRuns.{AreHonest}
 use Rattle.repl_core.specs.DosyncSettings.{Setting, body_in, IsAttemptAt}
 use Rattle.repl_core.specs.AttemptsInRuns.{names_ref, is_named_in, AttemptsInRunsAgree}
@@ -138,11 +138,11 @@ body_in-asks : (g : Ground) (steps : List Step) (t : ℕ) (a : Actor)
     → AsksThese (standing_after printed [] (body_in d)) x.since
 body_in-asks g steps t a d printed honest x at =
     let tree = g.evaluation x.form.job in
-    let all : AreItsAsks tree (x.before ++ begun ∷ x.since) =
+    let all : AreItsAsks tree (x.before ++ begun_attempt ∷ x.since) =
     subst (AreItsAsks tree) x.parted (honest-forms g steps t a x.form honest x.runs) in
     body-asks at.more (body_in d) at.next at.last printed x.since
-    (subst (λ k. AreItsAsks k (begun ∷ x.since)) at.stood
-    (asks-behind tree x.before (begun ∷ x.since) all)) x.within
+    (subst (λ k. AreItsAsks k (begun_attempt ∷ x.since)) at.stood
+    (asks-behind tree x.before (begun_attempt ∷ x.since) all)) x.within
 
 pub attempts-agree : AttemptsInRunsAgree
 attempts-agree g steps other_steps t u a b honest other_honest d printed other x y at other_at own

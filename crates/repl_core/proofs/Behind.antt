@@ -7,7 +7,7 @@ use Rattle.server_rules.specs.Deeds.{plan}
 use Rattle.server_rules.specs.Ground.{Ground}
 use Rattle.server_rules.specs.Plan.{Deed, StepAnswer, Outcome, refuses, leaves}
 use Rattle.ref_table.specs.Store.{Store}
-use Rattle.server_rules.specs.Tenant.{Quiet}
+use Rattle.server_rules.specs.Tenant.{TenantState}
 use Rattle.server_rules.specs.Machine.World.{TenantData, World, Step, does, ended_as, with_tenant}
 use Rattle.server_rules.specs.Machine.World.{step}
 use Rattle.server_rules.specs.declared.actor.Actor.{Actor}
@@ -91,21 +91,21 @@ refuses-unmade g w x m (Err e) is s = record {
 
 -- A deed that is accepted
 
-pub deed_result-tenant : (g : Ground) (s : Store) (q : Quiet) (d : Deed)
+pub deed_result-tenant : (g : Ground) (s : Store) (q : TenantState) (d : Deed)
     → (deed_result g s q d).store.tenant ≡ s.tenant
 unfolding deed_result
 deed_result-tenant g s q d = performed-tenant s (plan g s.tenant q d).call
 
 -- the server behind a deed
-abbrev pub world_behind : Ground → World → ℕ → TenantData → Deed → Quiet → World
+abbrev pub world_behind : Ground → World → ℕ → TenantData → Deed → TenantState → World
 world_behind g w t kept d q =
     let e = deed_of g w t kept d in
-    with_tenant t (Some (record { quiet = q; mine = e.store.mine })) e.store.around w
+    with_tenant t (Some (record { state = q; mine = e.store.mine })) e.store.around w
 
 pub stands-one : (g : Ground) (w : World) (t : ℕ) (d : Deed) (old : Machine) (ts : Tenants)
-    (table : RingRefTable) (code : Tenant) (kept : TenantData) (q : Quiet) (s : MachineStands g old w)
+    (table : RingRefTable) (code : Tenant) (kept : TenantData) (q : TenantState) (s : MachineStands g old w)
     → open_in t w ≡ Some kept
-    → world.QuietStands g code q (deed_of g w t kept d).store
+    → world.StandsForState g code q (deed_of g w t kept d).store
     → TableServes table (deed_of g w t kept d).store (refs_after (deed_of g w t kept d).store s.refs)
     → tenant_at ts t ≡ Some code
     → ((u : ℕ) → u ≢ t → tenant_at ts u ≡ tenant_at old.tenants u)
@@ -113,8 +113,8 @@ pub stands-one : (g : Ground) (w : World) (t : ℕ) (d : Deed) (old : Machine) (
 stands-one g w t d old ts table code kept q s there stands serves put others =
     let e = deed_of g w t kept d in
     let same : e.store.tenant ≡ t =
-    deed_result-tenant g (store_in w.around t kept.mine) kept.quiet d in
-    let part : TenantData = record { quiet = q; mine = e.store.mine } in
+    deed_result-tenant g (store_in w.around t kept.mine) kept.state d in
+    let part : TenantData = record { state = q; mine = e.store.mine } in
     let behind : World = world_behind g w t kept d q in
     let refs = refs_after e.store s.refs in
     record {
@@ -160,7 +160,7 @@ does-one g w t d old ts table code answer kept s there did serves put others = r
 pub does-so : {X : Type 0} (g : Ground) (w : World) (t : ℕ) (d : Deed) (old : Machine)
     (ts : Tenants) (table : RingRefTable) (was code : Tenant) (answer : X → StepAnswer)
     (res : Result X Refusal) (s : MachineStands g old w) → tenant_at old.tenants t ≡ Some was
-    → ((kept : TenantData) → world.QuietStands g was kept.quiet (store_in w.around t kept.mine)
+    → ((kept : TenantData) → world.StandsForState g was kept.state (store_in w.around t kept.mine)
     → TableServes old.refs (store_in w.around t kept.mine) s.refs
     → let e = deed_of g w t kept d in IfOk res (λ x. world.AcceptsDeed g e code (answer x)
     × TableServes table e.store (refs_after e.store s.refs)))
@@ -180,7 +180,7 @@ does-so g w t d old ts table was code answer res s there did put others =
 pub stays-one : (g : Ground) (w : World) (t : ℕ) (old : Machine) (ts : Tenants) (table : RingRefTable)
     (code : Tenant) (kept : TenantData) (s : MachineStands g old w)
     → open_in t w ≡ Some kept → kept.mine.refs ≡ s.refs.owned (tenant t)
-    → world.QuietStands g code kept.quiet (store_in w.around t kept.mine)
+    → world.StandsForState g code kept.state (store_in w.around t kept.mine)
     → TableServes table (store_in w.around t kept.mine) s.refs
     → tenant_at ts t ≡ Some code
     → ((u : ℕ) → u ≢ t → tenant_at ts u ≡ tenant_at old.tenants u)
@@ -198,7 +198,7 @@ stays-one g w t old ts table code kept s there refs stands serves put others = r
   tenants = all-places
       (λ u. PlaceStands g s.refs u (tenant_at ts u) (open_in u w)) t
       (place-of g s.refs t code kept (tenant_at ts t) (open_in t w) put there
-      (tenant-stands g s.refs t code kept.quiet (store_in w.around t kept.mine) refl refs stands))
+      (tenant-stands g s.refs t code kept.state (store_in w.around t kept.mine) refl refs stands))
       (λ u apart is. subst (λ o. PlaceStands g s.refs u o (open_in u w))
       (sym (others u apart)) (s.tenants u));
   newest = s.newest;
@@ -208,7 +208,7 @@ stays-one g w t old ts table code kept s there refs stands serves put others = r
 refuses-one : (g : Ground) (w : World) (t : ℕ) (d : Deed) (old : Machine) (ts : Tenants)
     (table : RingRefTable) (code : Tenant) (why : Refusal) (kept : TenantData) (s : MachineStands g old w)
     → open_in t w ≡ Some kept → kept.mine.refs ≡ s.refs.owned (tenant t)
-    → world.RefusesDeed g kept.quiet (store_in w.around t kept.mine) (deed_of g w t kept d) code why
+    → world.RefusesDeed g kept.state (store_in w.around t kept.mine) (deed_of g w t kept d) code why
     → TableServes table (store_in w.around t kept.mine) s.refs
     → tenant_at ts t ≡ Some code
     → ((u : ℕ) → u ≢ t → tenant_at ts u ≡ tenant_at old.tenants u)
@@ -222,9 +222,9 @@ refuses-one g w t d old ts table code why kept s there refs told serves put othe
 pub refuses-so : {X : Type 0} (g : Ground) (w : World) (t : ℕ) (d : Deed) (old : Machine)
     (ts : Tenants) (table : RingRefTable) (was code : Tenant) (res : Result X Refusal)
     (s : MachineStands g old w) → tenant_at old.tenants t ≡ Some was
-    → ((kept : TenantData) → world.QuietStands g was kept.quiet (store_in w.around t kept.mine)
+    → ((kept : TenantData) → world.StandsForState g was kept.state (store_in w.around t kept.mine)
     → TableServes old.refs (store_in w.around t kept.mine) s.refs
-    → IfErr res (λ why. world.RefusesDeed g kept.quiet (store_in w.around t kept.mine)
+    → IfErr res (λ why. world.RefusesDeed g kept.state (store_in w.around t kept.mine)
     (deed_of g w t kept d) code why × TableServes table (store_in w.around t kept.mine) s.refs))
     → tenant_at ts t ≡ Some code
     → ((u : ℕ) → u ≢ t → tenant_at ts u ≡ tenant_at old.tenants u)
@@ -246,7 +246,7 @@ ended-accepted w t s (leaves q answer) is = refl
 
 pub accepts-so : (g : Ground) (w : World) (t : ℕ) (d : Deed) (old : Machine) (was : Tenant)
     (s : MachineStands g old w) → tenant_at old.tenants t ≡ Some was
-    → ((kept : TenantData) → world.QuietStands g was kept.quiet (store_in w.around t kept.mine)
+    → ((kept : TenantData) → world.StandsForState g was kept.state (store_in w.around t kept.mine)
     → TableServes old.refs (store_in w.around t kept.mine) s.refs
     → is_accepted (deed_of g w t kept d).outcome ≡ true)
     → is_accepted_step (step g w (does t d)) ≡ true
@@ -259,7 +259,7 @@ accepts-so g w t d old was s there told =
     (told kept (it.stands w.around) (serves-in g old w t was kept s it))
 
 -- the deed of an actor
-pub of-actor : {X : Type 0} (g : Ground) (a : Actor) (q : Quiet) (e : DeedResult) (code : Tenant)
+pub of-actor : {X : Type 0} (g : Ground) (a : Actor) (q : TenantState) (e : DeedResult) (code : Tenant)
     (answer : X → StepAnswer) (S : Type 0) (res : Result X Refusal)
     → IfOk res (λ x. world.AcceptsDeedBy g a q e code (answer x)) → S
     → IfOk res (λ x. world.AcceptsDeed g e code (answer x) × S)

@@ -11,7 +11,7 @@ use Rattle.server_rules.specs.Ground.{Ground}
 use Rattle.ref_table.specs.Numbered.{entry, part_under}
 use Rattle.server_rules.specs.Plan.{tenant_opened, tenant_gone}
 use Rattle.ref_table.specs.Store.{Store}
-use Rattle.server_rules.specs.Tenant.{opened_quiet}
+use Rattle.server_rules.specs.Tenant.{opened_state}
 use Rattle.server_rules.specs.Machine.World.{World, opens, closes, opened_tenant, with_tenant}
 use Rattle.server_rules.specs.Machine.World as worlds
 use Rattle.server_rules.specs.Machine.World.{is_used, open_count, open_step, step, accepted, refused}
@@ -21,7 +21,7 @@ use Rattle.ref_table.specs.Refs.{Refs, without_refs}
 use Rattle.ref_table.specs.Standing as refs
 use Rattle.tenant_parts.proofs.EntryLaws.{found_first}
 use Rattle.tenant_parts.specs.Serving.{RingRefTable}
-use Rattle.tenant_parts.specs.Sound.{AreSound, IsSound}
+use Rattle.tenant_parts.specs.Sound.{AreSound, IsSoundRef}
 use Rattle.std.specs.List.{AllByRecursion}
 use Rattle.tenant_world.specs.Standing as world
 use Rattle.tenant_world.specs.declared.tenant.Tenant.{Tenant}
@@ -103,7 +103,7 @@ pub does-open : (g : Ground) (w : World) (t : ℕ) (old : Machine) (ts : Tenants
     (s : MachineStands g old w) → is_reached old.newest t ≡ false
     → nat_le old.places old.places_taken ≡ false
     → ((st : Store) → st.tenant ≡ t → st.mine.points ≡ []
-    → world.QuietStands g code (opened_quiet g) st)
+    → world.StandsForState g code (opened_state g) st)
     → tenant_at ts t ≡ Some code
     → ((u : ℕ) → u ≢ t → tenant_at ts u ≡ tenant_at old.tenants u)
     → AcceptsStep g w (opens t) (machine_more old ts t) tenant_opened
@@ -151,7 +151,7 @@ sound-without : (r : Refs) (t : ℕ) → AreSound r → AreSound (without_refs (
 sound-without r t sound = λ owner. by owner (same_owner owner (tenant t))
   where
     by : (owner : OwnerData) (b : Bool)
-        → AllByRecursion IsSound (if b then [] else r.owned owner)
+        → AllByRecursion IsSoundRef (if b then [] else r.owned owner)
     by owner true = tt
     by owner false = sound owner
 

@@ -23,7 +23,7 @@ use Rattle.ref_table.specs.Commit.{all_folded, with_changes, with_raised_counter
 use Rattle.ref_table.specs.Commit.{concluded_commit, checked_commit, commit_by}
 use Rattle.ref_table.specs.Calls.{performed_make, performed_begin, read_at, read_by}
 use Rattle.ref_table.specs.Calls.{bound_set, nothing, inside, performed}
-use Rattle.server_rules.specs.Asking.{call_of, send_call}
+use Rattle.server_rules.specs.Asking.{call_of, may_send_call}
 use Rattle.server_rules.proofs.Sound.{version_with}
 use Rattle.ref_table.proofs.Owners.{some-same, none-some, slice_get-changed, slice_get-added}
 use Rattle.ref_table.proofs.Owners.{slice_get-changed_other, slice_get-added_other}
@@ -314,7 +314,7 @@ commit-newest name seat intent answer s (Some point) told =
     (any_newer point (guarded_refs intent) s) refl told
 
 -- whether something may be sent is told of no ref
-pub send-stays : (seat : ℕ) (s : Store) → (performed s (send_call seat)).store ≡ s
+pub send-stays : (seat : ℕ) (s : Store) → (performed s (may_send_call seat)).store ≡ s
 send-stays seat s = by (seat == 0) where
   by : (b : Bool) → (performed s (if b then nothing else inside seat)).store ≡ s
   by true = refl

@@ -11,8 +11,8 @@ use Rattle.ref_table.specs.Numbered.{entry, part_under}
 use Rattle.ref_table.specs.Store.{Store, ref_of, left_attempt}
 use Rattle.ref_table.specs.Calls.{gives_up, given_up, performed}
 use Rattle.server_rules.specs.Ground.{Ground}
-use Rattle.server_rules.specs.Request.{Hand, Run}
-use Rattle.server_rules.specs.Tenant.{ActorData, seat_of, Quiet, is_held, actor_state}
+use Rattle.server_rules.specs.Request.{WorkInHand, Run}
+use Rattle.server_rules.specs.Tenant.{ActorData, seat_of, TenantState, is_held, actor_state}
 use Rattle.server_rules.specs.Plan.{Deed, hears, starts, asks_for, ends, drains}
 use Rattle.repl_asks.specs.Job.{EndingData}
 use Rattle.server_rules.specs.Plan.{StepAnswer, ask_answered, form_finished, Outcome, refuses}
@@ -20,7 +20,7 @@ use Rattle.server_rules.specs.Plan.{leaves, Plan, quietly, with_step_spent}
 use Rattle.server_rules.specs.Hearing.{hearing_plan}
 use Rattle.server_rules.specs.Moves.{form_ended}
 use Rattle.server_rules.specs.Starting.{after_move, interrupted_in}
-use Rattle.server_rules.specs.Asking.{call_of, may_ask, is_allowed, answer_to, session_of}
+use Rattle.server_rules.specs.Asking.{call_of, may_ask, is_allowed, answer_to, session_number}
 use Rattle.server_rules.specs.Asking.{ask_outcome, answer_outcome, when_told, asked_allowed}
 use Rattle.server_rules.specs.Asking.{asked_running, asked_of}
 use Rattle.server_rules.specs.Cells.{must_wait}
@@ -44,7 +44,7 @@ use Rattle.repl_core.proofs.CommitCalls.{given-none}
 
 -- The plans of an ask
 
-worn-by : (P : Plan → Type 0) (q : Quiet) (p : Plan) → P (quietly (refuses Refusal.Worn)) → P p
+worn-by : (P : Plan → Type 0) (q : TenantState) (p : Plan) → P (quietly (refuses Refusal.Worn)) → P p
     → P (unless_worn q p)
 worn-by P q p none all =
     elim (q.steps == 0) as (λ b. P (if b then quietly (refuses Refusal.Worn) else p)) [
@@ -59,24 +59,24 @@ actor-by P None p none all = none
 actor-by P (Some actor) p none all = all actor
 
 -- the actor's session was closed, or the form is answered
-abbrev pub closed_plan : Actor → Hand → AskData → Quiet → Plan
+abbrev pub closed_plan : Actor → WorkInHand → AskData → TenantState → Plan
 closed_plan a h ask q = record {
   call = gives_up (seat_of a) (call_of (seat_of a) ask);
   next = λ told. when_told told (λ _. interrupted_in a h q);
 }
 
-abbrev pub open_plan : Ground → Actor → ActorData → Hand → Run → AskData → Quiet → Plan
+abbrev pub open_plan : Ground → Actor → ActorData → WorkInHand → Run → AskData → TenantState → Plan
 open_plan g a actor h form ask q = record {
   call = call_of (seat_of a) ask;
   next = λ told. when_told told (answer_outcome g a actor h form ask q);
 }
 
-module _ (P : Plan → Type 0) (g : Ground) (a : Actor) (ask : AskData) (q : Quiet)
+module _ (P : Plan → Type 0) (g : Ground) (a : Actor) (ask : AskData) (q : TenantState)
     (none : (why : Refusal) → P (quietly (refuses why)))
-    (closed : (h : Hand) → P (closed_plan a h ask q))
-    (open_for : (actor : ActorData) (h : Hand) (form : Run)
+    (closed : (h : WorkInHand) → P (closed_plan a h ask q))
+    (open_for : (actor : ActorData) (h : WorkInHand) (form : Run)
     → P (open_plan g a actor h form ask q)) where
-  allowed-by : (actor : ActorData) (h : Hand) (form : Run)
+  allowed-by : (actor : ActorData) (h : WorkInHand) (form : Run)
       → P (asked_allowed g a actor h form ask q)
   allowed-by actor h form =
       elim actor.is_closed
@@ -85,7 +85,7 @@ module _ (P : Plan → Type 0) (g : Ground) (a : Actor) (ask : AskData) (q : Qui
         | false ↦ open_for actor h form
       ]
 
-  running-by : (actor : ActorData) (h : Hand) (form : Option Run)
+  running-by : (actor : ActorData) (h : WorkInHand) (form : Option Run)
       → P (asked_running g a actor h ask q form)
   running-by actor h None = none Refusal.Idle
   running-by actor h (Some form) =
@@ -96,7 +96,7 @@ module _ (P : Plan → Type 0) (g : Ground) (a : Actor) (ask : AskData) (q : Qui
         | false ↦ none Refusal.Idle
       ]
 
-  hand-by : (actor : ActorData) (h : Option Hand) → P (asked_of g a actor ask q h)
+  hand-by : (actor : ActorData) (h : Option WorkInHand) → P (asked_of g a actor ask q h)
   hand-by actor None = none Refusal.Idle
   hand-by actor (Some h) = running-by actor h h.running
 
@@ -111,16 +111,16 @@ abbrev pub Gives : RefNameData → World → Step → Stepped → Type 0
 Gives name w s x = newest_in name (world_or w x) ≡ newest_behind name s x (newest_in name w)
 
 -- a tenant that is put in place of itself
-put-newest : (name : RefNameData) (w : World) (t : ℕ) (kept : TenantData) (q : Quiet) (s : Store)
+put-newest : (name : RefNameData) (w : World) (t : ℕ) (kept : TenantData) (q : TenantState) (s : Store)
     (given : Option Datum → Option Datum) → open_in t w ≡ Some kept → s.tenant ≡ t
     → newest_at name s ≡ given (newest_at name (store_in w.around t kept.mine))
     → ((before : Option Datum) → given None ≡ None → given before ≡ before)
-    → newest_in name (with_tenant t (Some (record { quiet = q; mine = s.mine })) s.around w)
+    → newest_in name (with_tenant t (Some (record { state = q; mine = s.mine })) s.around w)
     ≡ given (newest_in name w)
 put-newest name w t kept q s given there same here idle = by name.owner here
   where
     part : Option TenantData
-    part = Some (record { quiet = q; mine = s.mine })
+    part = Some (record { state = q; mine = s.mine })
 
     shown : Option TenantData → Option Datum
     shown p = newest_of (slice_get (kept_refs p) name.number)
@@ -157,7 +157,7 @@ after-none name t _ _ before e = refl
 
 ended-gives : (name : RefNameData) (w : World) (t : ℕ) (d : Deed) (kept : TenantData) (s : Store)
     (o : Outcome) → open_in t w ≡ Some kept → s.tenant ≡ t
-    → ((q : Quiet) (answer : StepAnswer) → o ≡ leaves q answer → newest_at name s
+    → ((q : TenantState) (answer : StepAnswer) → o ≡ leaves q answer → newest_at name s
     ≡ newest_after name (does t d) answer (newest_at name (store_in w.around t kept.mine)))
     → Gives name w (does t d) (ended_as w t s o)
 ended-gives name w t d kept s (refuses why) there same here = refl
@@ -186,51 +186,51 @@ module _ (name : RefNameData) (w : World) (t : ℕ) (kept : TenantData)
       (λ q answer is. left-newest name (seat_of a) (store_in w.around t kept.mine)
       ∙ sym (still answer (newest_at name (store_in w.around t kept.mine))))
 
-  compared-gives : (d : Deed) → Still d → (a : Actor) (actor : ActorData) (h : Hand) (form : Run)
+  compared-gives : (d : Deed) → Still d → (a : Actor) (actor : ActorData) (h : WorkInHand) (form : Run)
       (e : EndingData) (same : Bool) (difference : Option ℕ)
-      → Planned d (end_compared a actor h form e kept.quiet same difference)
+      → Planned d (end_compared a actor h form e kept.state same difference)
   compared-gives d still a actor h form e false difference = refl
   compared-gives d still a actor h form e true (Some place) = refl
   compared-gives d still a actor h form e true None = left-gives d still a
-      (leaves (with_step_spent (after_move a actor (form_ended h e.end (actor_state a kept.quiet))
-      (with_cells_ended a h form e kept.quiet))) form_finished)
+      (leaves (with_step_spent (after_move a actor (form_ended h e.end (actor_state a kept.state))
+      (with_cells_ended a h form e kept.state))) form_finished)
 
-  checked-gives : (g : Ground) (d : Deed) → Still d → (a : Actor) (actor : ActorData) (h : Hand)
-      (form : Run) (e : EndingData) → Planned d (end_checked g a actor h form e kept.quiet)
+  checked-gives : (g : Ground) (d : Deed) → Still d → (a : Actor) (actor : ActorData) (h : WorkInHand)
+      (form : Run) (e : EndingData) → Planned d (end_checked g a actor h form e kept.state)
   checked-gives g d still a actor h form e = compared-gives d still a actor h form e
       (g.comparisons.is_same_job e.job form.job) (g.comparisons.difference e.trace form.trace)
 
-  ending-gives : (g : Ground) (d : Deed) → Still d → (a : Actor) (actor : ActorData) (h : Hand)
-      (e : EndingData) (form : Option Run) → Planned d (end_running g a actor h e kept.quiet form)
+  ending-gives : (g : Ground) (d : Deed) → Still d → (a : Actor) (actor : ActorData) (h : WorkInHand)
+      (e : EndingData) (form : Option Run) → Planned d (end_running g a actor h e kept.state form)
   ending-gives g d still a actor h e None = refl
   ending-gives g d still a actor h e (Some form) =
       elim actor.is_closed
-      as (λ b. Planned d (if b then with_left_attempt a (interrupted_in a h kept.quiet)
-      else if is_held kept.quiet then quietly (refuses Refusal.Held)
-      else end_checked g a actor h form e kept.quiet)) [
-        | true ↦ left-gives d still a (interrupted_in a h kept.quiet)
-        | false ↦ elim (is_held kept.quiet)
+      as (λ b. Planned d (if b then with_left_attempt a (interrupted_in a h kept.state)
+      else if is_held kept.state then quietly (refuses Refusal.Held)
+      else end_checked g a actor h form e kept.state)) [
+        | true ↦ left-gives d still a (interrupted_in a h kept.state)
+        | false ↦ elim (is_held kept.state)
             as (λ b. Planned d (if b then quietly (refuses Refusal.Held)
-            else end_checked g a actor h form e kept.quiet)) [
+            else end_checked g a actor h form e kept.state)) [
               | true ↦ refl
               | false ↦ checked-gives g d still a actor h form e
             ]
       ]
 
   end-gives : (g : Ground) (d : Deed) → Still d → (a : Actor) (actor : ActorData) (e : EndingData)
-      (h : Option Hand) → Planned d (end_of g a actor e kept.quiet h)
+      (h : Option WorkInHand) → Planned d (end_of g a actor e kept.state h)
   end-gives g d still a actor e None = refl
   end-gives g d still a actor e (Some h) = ending-gives g d still a actor h e h.running
 
-  closed-gives : (a : Actor) (ask : AskData) (h : Hand)
-      → Planned (asks_for a ask) (closed_plan a h ask kept.quiet)
+  closed-gives : (a : Actor) (ask : AskData) (h : WorkInHand)
+      → Planned (asks_for a ask) (closed_plan a h ask kept.state)
   closed-gives a ask h =
       by (performed (store_in w.around t kept.mine) (call_of (seat_of a) ask)).told
     where
       by : (o : Option AnswerData) → Gives name w (does t (asks_for a ask))
           (ended_as w t (given_up (seat_of a) (store_in w.around t kept.mine) o).store
           (when_told (given_up (seat_of a) (store_in w.around t kept.mine) o).told
-          (λ _. interrupted_in a h kept.quiet)))
+          (λ _. interrupted_in a h kept.state)))
       by None = refl
       by (Some v) = put-newest name w t kept _
           (left_attempt (seat_of a) (store_in w.around t kept.mine)) (λ before. before) there refl
@@ -238,13 +238,13 @@ module _ (name : RefNameData) (w : World) (t : ℕ) (kept : TenantData)
 
   answer-given : (g : Ground) (a : Actor) (ask : AskData) (told : AnswerData)
       (before : Option Datum)
-      → given_by name ask (answer_to g a kept.quiet ask told) before
+      → given_by name ask (answer_to g a kept.state ask told) before
       ≡ given_by name ask told before
   answer-given g a (exchange.resolve namespace symbol) told before = refl
   answer-given g a _ told before = refl
 
-  open-gives : (g : Ground) (a : Actor) (ask : AskData) (actor : ActorData) (h : Hand) (form : Run)
-      → Planned (asks_for a ask) (open_plan g a actor h form ask kept.quiet)
+  open-gives : (g : Ground) (a : Actor) (ask : AskData) (actor : ActorData) (h : WorkInHand) (form : Run)
+      → Planned (asks_for a ask) (open_plan g a actor h form ask kept.state)
   open-gives g a ask actor h form =
       by (performed (store_in w.around t kept.mine) (call_of (seat_of a) ask)).told refl
     where
@@ -254,34 +254,34 @@ module _ (name : RefNameData) (w : World) (t : ℕ) (kept : TenantData)
       by : (o : Option AnswerData) → (performed s (call_of (seat_of a) ask)).told ≡ o
           → Gives name w (does t (asks_for a ask))
           (ended_as w t (performed s (call_of (seat_of a) ask)).store
-          (when_told o (answer_outcome g a actor h form ask kept.quiet)))
+          (when_told o (answer_outcome g a actor h form ask kept.state)))
       by None told = refl
-      by (Some v) told = waits (must_wait (session_of a) ask kept.quiet.cells) where
+      by (Some v) told = waits (must_wait (session_number a) ask kept.state.cells) where
         waits : (b : Bool) → Gives name w (does t (asks_for a ask))
             (ended_as w t (performed s (call_of (seat_of a) ask)).store
-            (if b then refuses Refusal.Waiting else ask_outcome g a actor h form ask kept.quiet v))
+            (if b then refuses Refusal.Waiting else ask_outcome g a actor h form ask kept.state v))
         waits true = refl
         waits false = put-newest name w t kept _ (performed s (call_of (seat_of a) ask)).store
-            (given_by name ask (answer_to g a kept.quiet ask v)) there
+            (given_by name ask (answer_to g a kept.state ask v)) there
             (performed-tenant s (call_of (seat_of a) ask))
             (asked-newest name (seat_of a) ask v s told
             ∙ sym (answer-given g a ask v (newest_at name s)))
-            (given-none name ask (answer_to g a kept.quiet ask v))
+            (given-none name ask (answer_to g a kept.state ask v))
 
-  plan-gives : (g : Ground) (d : Deed) → Planned d (plan g t kept.quiet d)
+  plan-gives : (g : Ground) (d : Deed) → Planned d (plan g t kept.state d)
   plan-gives g (hears piece) =
-      quiet-gives (hears piece) (λ answer before. refl) ((hearing_plan g t piece kept.quiet).next None)
-  plan-gives g (starts a) = worn-by (Planned (starts a)) kept.quiet _ refl
-      (actor-by (Planned (starts a)) (part_under (seat_of a) kept.quiet.actors) _ refl
+      quiet-gives (hears piece) (λ answer before. refl) ((hearing_plan g t piece kept.state).next None)
+  plan-gives g (starts a) = worn-by (Planned (starts a)) kept.state _ refl
+      (actor-by (Planned (starts a)) (part_under (seat_of a) kept.state.actors) _ refl
       (λ actor. quiet-gives (starts a) (λ answer before. refl)
-      (start_of g a actor kept.quiet actor.hand)))
-  plan-gives g (asks_for a ask) = asked-by (Planned (asks_for a ask)) g a ask kept.quiet
+      (start_of g a actor kept.state actor.hand)))
+  plan-gives g (asks_for a ask) = asked-by (Planned (asks_for a ask)) g a ask kept.state
       (λ why. refl) (closed-gives a ask) (open-gives g a ask) t
-  plan-gives g (ends a e) = worn-by (Planned (ends a e)) kept.quiet _ refl
-      (actor-by (Planned (ends a e)) (part_under (seat_of a) kept.quiet.actors) _ refl
+  plan-gives g (ends a e) = worn-by (Planned (ends a e)) kept.state _ refl
+      (actor-by (Planned (ends a e)) (part_under (seat_of a) kept.state.actors) _ refl
       (λ actor. end-gives g (ends a e) (λ answer before. refl) a actor e actor.hand))
   plan-gives g drains = quiet-gives drains (λ answer before. refl)
-      (drain_outcome kept.quiet kept.quiet.replies)
+      (drain_outcome kept.state kept.state.replies)
 
 deed-gives : (name : RefNameData) (g : Ground) (w : World) (t : ℕ) (d : Deed)
     (o : Option (Option TenantData)) → part_under t w.tenants ≡ o

@@ -17,7 +17,7 @@ use Rattle.ref_table.specs.Commit.{checked_commit, commit_by}
 use Rattle.ref_table.specs.Performed.{Performed}
 use Rattle.ref_table.specs.Calls.{commits, given_up, performed}
 use Rattle.server_rules.specs.Ground.{Ground}
-use Rattle.server_rules.specs.Request.{Hand, Run}
+use Rattle.server_rules.specs.Request.{WorkInHand, Run}
 use Rattle.server_rules.specs.Tenant.{ActorData, seat_of}
 use Rattle.server_rules.specs.Plan.{asks_for, StepAnswer, ask_answered, Plan}
 use Rattle.server_rules.specs.Starting.{interrupted_in}
@@ -80,19 +80,19 @@ module _ (g : Ground) (w after : World) (t : ℕ) (a : Actor) (intent : IntentDa
   Met p = planned_step w t kept p ≡ accepted after (ask_answered (verdict committed))
       → MetNoNewer w t a intent
 
-  met-closed : (h : Hand) → Met (closed_plan a h (commit intent) kept.quiet)
+  met-closed : (h : WorkInHand) → Met (closed_plan a h (commit intent) kept.state)
   met-closed h = by (performed (store_in w.around t kept.mine) (commits (seat_of a) intent)).told
     where
       by : (o : Option AnswerData)
           → ended_as w t (given_up (seat_of a) (store_in w.around t kept.mine) o).store
           (when_told (given_up (seat_of a) (store_in w.around t kept.mine) o).told
-          (λ _. interrupted_in a h kept.quiet))
+          (λ _. interrupted_in a h kept.state))
           ≡ accepted after (ask_answered (verdict committed)) → MetNoNewer w t a intent
       by None e = absurd (never-refused _ _ _ e)
       by (Some v) e = let same = same-answer _ _ _ _ e in absurd (cc)
 
-  met-open : (actor : ActorData) (h : Hand) (form : Run)
-      → Met (open_plan g a actor h form (commit intent) kept.quiet)
+  met-open : (actor : ActorData) (h : WorkInHand) (form : Run)
+      → Met (open_plan g a actor h form (commit intent) kept.state)
   met-open actor h form = by (part_under (seat_of a) kept.mine.points) refl
     where
       s : Store
@@ -100,7 +100,7 @@ module _ (g : Ground) (w after : World) (t : ℕ) (a : Actor) (intent : IntentDa
 
       Comes : Performed Store → Type 0
       Comes called = ended_as w t called.store
-          (when_told called.told (answer_outcome g a actor h form (commit intent) kept.quiet))
+          (when_told called.told (answer_outcome g a actor h form (commit intent) kept.state))
           ≡ accepted after (ask_answered (verdict committed)) → MetNoNewer w t a intent
 
       concludes : MetNoNewer w t a intent → (folds : Result (List ChangeData) Failure)
@@ -128,8 +128,8 @@ module _ (g : Ground) (w after : World) (t : ℕ) (a : Actor) (intent : IntentDa
       by (Some point) began = at point began (all_there (touched_refs intent) s && intent_fits intent)
           (any_newer point (guarded_refs intent) s) refl refl
 
-  met-planned : Met (plan g t kept.quiet (asks_for a (commit intent)))
-  met-planned = asked-by Met g a (commit intent) kept.quiet
+  met-planned : Met (plan g t kept.state (asks_for a (commit intent)))
+  met-planned = asked-by Met g a (commit intent) kept.state
       (λ why e. absurd (never-refused _ _ _ e)) met-closed met-open t
 
 pub met-none_newer : (g : Ground) (w after : World) (t : ℕ) (a : Actor) (intent : IntentData)

@@ -14,15 +14,15 @@ use Rattle.ref_table.specs.Performed.{Performed}
 use Rattle.ref_table.specs.Calls.{performed, given_up}
 use Rattle.server_rules.specs.Cells.{CellsData, must_wait}
 use Rattle.server_rules.specs.Ground.{Ground}
-use Rattle.server_rules.specs.Request.{Hand, Run}
-use Rattle.server_rules.specs.Tenant.{ActorData, unoccupied, seat_of, Quiet, is_held, actor_state}
+use Rattle.server_rules.specs.Request.{WorkInHand, Run}
+use Rattle.server_rules.specs.Tenant.{ActorData, unoccupied, seat_of, TenantState, is_held, actor_state}
 use Rattle.server_rules.specs.Tenant.{with_replies}
 use Rattle.server_rules.specs.Replying.{reply}
 use Rattle.server_rules.specs.Moves.{Move, form_ended}
 use Rattle.server_rules.specs.Hearing.{stream_fault, hears_more, taken_in, new_messages}
 use Rattle.server_rules.specs.Starting.{Started, after_move, interrupted_in}
-use Rattle.server_rules.specs.Asking.{call_of, session_of, answer_to, ask_outcome, answer_outcome}
-use Rattle.server_rules.specs.Asking.{when_told, quiet_after, sender_of, with_recorded_answer}
+use Rattle.server_rules.specs.Asking.{call_of, session_number, answer_to, ask_outcome, answer_outcome}
+use Rattle.server_rules.specs.Asking.{when_told, state_after, sender_of, with_recorded_answer}
 use Rattle.server_rules.specs.Ending.{with_cells_ended}
 use Rattle.server_rules.specs.Plan.{Deed, hears, starts, asks_for, ends, drains, StepAnswer}
 use Rattle.server_rules.specs.Plan.{ask_answered, messages_heard, request_interrupted, form_finished}
@@ -49,7 +49,7 @@ use Rattle.repl_core.proofs.Runs.{heard-runs}
 -- A deed
 
 -- the form that runs, if one does, is this
-abbrev Covers : Actor → Quiet → Option Run → Type 0
+abbrev Covers : Actor → TenantState → Option Run → Type 0
 Covers a q form = (run : Run) → running_in a q ≡ Some run → form ≡ Some run
 
 -- behind the outcome it is what the deed and its answer tell, if the deed is the actor's
@@ -59,31 +59,31 @@ Tells own a d form (leaves q answer) =
     Covers a q (if own then form_by_deed d answer form else form)
 
 -- the tenant behind an interruption
-abbrev interrupted_quiet : Actor → Hand → Quiet → Quiet
-interrupted_quiet a h q = with_step_spent (with_replies (reply h.origin interrupted ∷ [])
+abbrev interrupted_state : Actor → WorkInHand → TenantState → TenantState
+interrupted_state a h q = with_step_spent (with_replies (reply h.origin interrupted ∷ [])
     (record q { actors = without (seat_of a) q.actors }))
 
 -- and behind an ask that is answered so
-abbrev answered_quiet : Actor → ActorData → Hand → Run → AskData → AnswerData → Quiet → Quiet
-answered_quiet a actor h run ask answer q = with_step_spent
-    (with_recorded_answer a actor h run ask answer (quiet_after (sender_of a h) ask answer q))
+abbrev answered_state : Actor → ActorData → WorkInHand → Run → AskData → AnswerData → TenantState → TenantState
+answered_state a actor h run ask answer q = with_step_spent
+    (with_recorded_answer a actor h run ask answer (state_after (sender_of a h) ask answer q))
 
 abbrev Comes : Bool → Actor → Store → Deed → Option Run → Plan → Type 0
 Comes own a s d form p = Tells own a d form (p.next (performed s p.call).told)
 
-module _ (g : Ground) (a : Actor) (q : Quiet) (s : Store) (form : Option Run)
+module _ (g : Ground) (a : Actor) (q : TenantState) (s : Store) (form : Option Run)
     (covers : Covers a q form) where
-  none-told : (own : Bool) (d : Deed) (answer : StepAnswer) (later : Quiet)
+  none-told : (own : Bool) (d : Deed) (answer : StepAnswer) (later : TenantState)
       → running_in a later ≡ None → Tells own a d form (leaves later answer)
   none-told own d answer later none = λ run is. absurd (none-some (sym none ∙ is))
 
-  same-told : (d : Deed) (answer : StepAnswer) (later : Quiet) → running_in a later ≡ running_in a q
+  same-told : (d : Deed) (answer : StepAnswer) (later : TenantState) → running_in a later ≡ running_in a q
       → Tells false a d form (leaves later answer)
   same-told d answer later same = λ run is. covers run (sym same ∙ is)
 
   -- what the actor itself does
 
-  begun-told : (st : Started) (later : Quiet) → HasBegun st
+  begun-told : (st : Started) (later : TenantState) → HasBegun st
       → running_in a later ≡ option_and_then (λ h. h.running) st.move.hand
       → Tells true a (starts a) form (leaves later st.answer)
   begun-told st later begun same = λ run is.
@@ -98,13 +98,13 @@ module _ (g : Ground) (a : Actor) (q : Quiet) (s : Store) (form : Option Run)
       begun-told st (with_step_spent (after_move a actor st.move (record q { cells = c }))) begun
       (moved-runs a a actor st.move (record q { cells = c })
       ∙ put-mine (seat_of a) new old q.actors there))
-      (λ actor there none h. none-told true (starts a) request_interrupted (interrupted_quiet a h q)
+      (λ actor there none h. none-told true (starts a) request_interrupted (interrupted_state a h q)
       (gone-mine (seat_of a) q.actors))
       t
 
   end-mine : (e : EndingData) (t : ℕ) → Comes true a s (ends a e) form (plan g t q (ends a e))
   end-mine e t = ends-by (Comes true a s (ends a e) form) g a q (λ why. tt) e
-      (λ actor there h. none-told true (ends a e) request_interrupted (interrupted_quiet a h q)
+      (λ actor there h. none-told true (ends a e) request_interrupted (interrupted_state a h q)
       (gone-mine (seat_of a) q.actors))
       (λ actor there h run.
       let m : Move = form_ended h e.end (actor_state a q) in
@@ -123,14 +123,14 @@ module _ (g : Ground) (a : Actor) (q : Quiet) (s : Store) (form : Option Run)
       asked actor there h in_hand run runs (performed s (call_of (seat_of a) ask)).told)
       t
     where
-      closed : (h : Hand) (o : Option AnswerData)
+      closed : (h : WorkInHand) (o : Option AnswerData)
           → Tells true a (asks_for a ask) form
           (when_told (given_up (seat_of a) s o).told (λ _. interrupted_in a h q))
       closed h None = tt
-      closed h (Some v) = none-told true (asks_for a ask) request_interrupted (interrupted_quiet a h q)
+      closed h (Some v) = none-told true (asks_for a ask) request_interrupted (interrupted_state a h q)
           (gone-mine (seat_of a) q.actors)
 
-      asked : (actor : ActorData) → There a q actor → (h : Hand) → actor.hand ≡ Some h
+      asked : (actor : ActorData) → There a q actor → (h : WorkInHand) → actor.hand ≡ Some h
           → (run : Run) → h.running ≡ Some run → (o : Option AnswerData)
           → Tells true a (asks_for a ask) form
           (when_told o (answer_outcome g a actor h run ask q))
@@ -141,12 +141,12 @@ module _ (g : Ground) (a : Actor) (q : Quiet) (s : Store) (form : Option Run)
           let new : ActorData = record actor { hand = Some (record h { running = Some more }) } in
           let was : running_in a q ≡ Some run = ap running_of there
           ∙ ap (option_and_then (λ x. x.running)) in_hand ∙ runs in
-          either (Tells true a (asks_for a ask) form) (must_wait (session_of a) ask q.cells)
+          either (Tells true a (asks_for a ask) form) (must_wait (session_number a) ask q.cells)
           (refuses Refusal.Waiting) (ask_outcome g a actor h run ask q v) tt
           (λ other is. ap (option_map (run_with (exchange_from ask answer))) (covers run was)
           ∙ sym (put-mine (seat_of a) new actor q.actors there) ∙ is)
 
-module _ (g : Ground) (a b : Actor) (q : Quiet) (s : Store) (form : Option Run)
+module _ (g : Ground) (a b : Actor) (q : TenantState) (s : Store) (form : Option Run)
     (covers : Covers a q form) (apart : seat_of a ≢ seat_of b) where
   moved-other : (d : Deed) (answer : StepAnswer) (actor old : ActorData) (m : Move)
       → There b q old → (c : CellsData)
@@ -157,9 +157,9 @@ module _ (g : Ground) (a b : Actor) (q : Quiet) (s : Store) (form : Option Run)
       (moved-runs a b actor m (record q { cells = c })
       ∙ put-other (seat_of a) (seat_of b) (record actor { hand = m.hand }) old q.actors apart there)
 
-  interrupted-other : (d : Deed) (h : Hand) → Tells false a d form (interrupted_in b h q)
+  interrupted-other : (d : Deed) (h : WorkInHand) → Tells false a d form (interrupted_in b h q)
   interrupted-other d h = same-told g a q s form covers d request_interrupted
-      (interrupted_quiet b h q) (gone-other (seat_of a) (seat_of b) q.actors apart)
+      (interrupted_state b h q) (gone-other (seat_of a) (seat_of b) q.actors apart)
 
   start-other : (t : ℕ) → Comes false a s (starts b) form (plan g t q (starts b))
   start-other t = starts-by (Comes false a s (starts b) form) g b q (λ why. tt)
@@ -181,13 +181,13 @@ module _ (g : Ground) (a b : Actor) (q : Quiet) (s : Store) (form : Option Run)
       asked actor there h run (performed s (call_of (seat_of b) ask)).told)
       t
     where
-      closed : (h : Hand) (o : Option AnswerData)
+      closed : (h : WorkInHand) (o : Option AnswerData)
           → Tells false a (asks_for b ask) form
           (when_told (given_up (seat_of b) s o).told (λ _. interrupted_in b h q))
       closed h None = tt
       closed h (Some v) = interrupted-other (asks_for b ask) h
 
-      asked : (actor : ActorData) → There b q actor → (h : Hand) (run : Run)
+      asked : (actor : ActorData) → There b q actor → (h : WorkInHand) (run : Run)
           (o : Option AnswerData)
           → Tells false a (asks_for b ask) form
           (when_told o (answer_outcome g b actor h run ask q))
@@ -196,10 +196,10 @@ module _ (g : Ground) (a b : Actor) (q : Quiet) (s : Store) (form : Option Run)
           let answer : AnswerData = answer_to g b q ask v in
           let more : Run = run_with (exchange_from ask answer) run in
           let new : ActorData = record actor { hand = Some (record h { running = Some more }) } in
-          either (Tells false a (asks_for b ask) form) (must_wait (session_of b) ask q.cells)
+          either (Tells false a (asks_for b ask) form) (must_wait (session_number b) ask q.cells)
           (refuses Refusal.Waiting) (ask_outcome g b actor h run ask q v) tt
           (same-told g a q s form covers (asks_for b ask) (ask_answered answer)
-          (answered_quiet b actor h run ask answer q)
+          (answered_state b actor h run ask answer q)
           (put-other (seat_of a) (seat_of b) new actor q.actors apart there))
 
 own-so : (a b : Actor) (P : Bool → Type 0) → seat_of a ≡ seat_of b → P true
@@ -210,7 +210,7 @@ other-so : (a b : Actor) (P : Bool → Type 0) → seat_of a ≢ seat_of b → P
     → P (seat_of a == seat_of b)
 other-so a b P apart h = subst P (sym (ne_eqb (seat_of a) (seat_of b) apart)) h
 
-plan-tells : (g : Ground) (a : Actor) (q : Quiet) (s : Store) (form : Option Run)
+plan-tells : (g : Ground) (a : Actor) (q : TenantState) (s : Store) (form : Option Run)
     → Covers a q form → (t : ℕ) (d : Deed)
     → Comes (is_deed_of a d) a s d form (plan g t q d)
 plan-tells g a q s form covers t (hears piece) =
@@ -224,7 +224,7 @@ plan-tells g a q s form covers t (hears piece) =
     heard None =
         let answer : StepAnswer =
         messages_heard (length (new_messages g.readings q.heard piece)) in
-        let later : Quiet = with_step_spent (taken_in g t piece q) in
+        let later : TenantState = with_step_spent (taken_in g t piece q) in
         either (Tells false a (hears piece) form) (is_held q) (refuses Refusal.Held)
         (leaves later answer) tt
         (same-told g a q s form covers (hears piece) answer later (heard-runs g t piece q a))
@@ -268,9 +268,9 @@ StepTells t a s form (refused why) = ⊤
 StepTells t a s form (accepted w answer) = CoversIn t a w (form_by_step t a s answer form)
 
 form-at : (a : Actor) (o p : Option TenantData) → o ≡ p
-    → option_and_then (λ kept. running_in a kept.quiet) o
-    ≡ option_and_then (λ kept. running_in a kept.quiet) p
-form-at a o p e = ap (option_and_then (λ kept. running_in a kept.quiet)) e
+    → option_and_then (λ kept. running_in a kept.state) o
+    ≡ option_and_then (λ kept. running_in a kept.state) p
+form-at a o p e = ap (option_and_then (λ kept. running_in a kept.state)) e
 
 module _ (g : Ground) (w : World) (t : ℕ) (a : Actor) (form : Option Run)
     (covers : CoversIn t a w form) where
@@ -285,7 +285,7 @@ module _ (g : Ground) (w : World) (t : ℕ) (a : Actor) (form : Option Run)
       → Tells (is_deed_of a d) a d form o → StepTells t a (does u d) form (ended_as w u new o)
   ended-mine u d kept new (refuses why) there own same tells = tt
   ended-mine u d kept new (leaves q answer) there own same tells = λ run is.
-      let part : TenantData = record { quiet = q; mine = new.mine } in
+      let part : TenantData = record { state = q; mine = new.mine } in
       let later : World = record { around = new.around; tenants = with_tenants u (Some part) } in
       let open_here : open_in u w ≡ Some kept = ap (λ k. open_in k w) (sym same) ∙ there in
       let mine : open_in t later ≡ Some part =
@@ -301,7 +301,7 @@ module _ (g : Ground) (w : World) (t : ℕ) (a : Actor) (form : Option Run)
       → StepTells t a (does u d) form (ended_as w u new o)
   ended-other u d kept new (refuses why) there other apart = tt
   ended-other u d kept new (leaves q answer) there other apart = λ run is.
-      let part : TenantData = record { quiet = q; mine = new.mine } in
+      let part : TenantData = record { state = q; mine = new.mine } in
       ap (λ b. if b && is_deed_of a d then form_by_deed d answer form else form) other
       ∙ same-covers (record { around = new.around; tenants = with_part u (Some part) w.tenants })
       (open-others w new.around u t (Some part) kept there apart) run is
@@ -319,16 +319,16 @@ module _ (g : Ground) (w : World) (t : ℕ) (a : Actor) (form : Option Run)
       s = store_in w.around u kept.mine
 
       called : Performed Store
-      called = performed s (plan g u kept.quiet d).call
+      called = performed s (plan g u kept.state d).call
 
       o : Outcome
-      o = (plan g u kept.quiet d).next called.told
+      o = (plan g u kept.state d).next called.told
 
       by : (t ≡ u) ⊎ (t ≢ u) → StepTells t a (does u d) form (ended_as w u called.store o)
       by (inl same) =
           let here : open_in t w ≡ Some kept = ap (λ k. open_in k w) same ∙ there in
           ended-mine u d kept called.store o here (eq-eqb t u same) same
-          (plan-tells g a kept.quiet s form
+          (plan-tells g a kept.state s form
           (λ run is. covers run (form-at a _ (Some kept) here ∙ is)) u d)
       by (inr apart) = ended-other u d kept called.store o there (ne_eqb t u apart) apart
 

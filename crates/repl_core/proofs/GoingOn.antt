@@ -4,7 +4,7 @@ use Rattle.server_rules.specs.Ground.{Ground}
 use Rattle.server_rules.specs.Plan as deeds
 use Rattle.server_rules.specs.Plan.{Deed, StepAnswer, Outcome, refuses, leaves}
 use Rattle.ref_table.specs.Store.{Store}
-use Rattle.server_rules.specs.Tenant.{Quiet}
+use Rattle.server_rules.specs.Tenant.{TenantState}
 use Rattle.server_rules.specs.Machine.World.{TenantData, World, Stepped, accepted, refused, step, does}
 use Rattle.server_rules.specs.Machine.World.{ended_as}
 use Rattle.server_rules.specs.declared.actor.Actor.{Actor}
@@ -30,11 +30,11 @@ pub same-world : (w x : World) (a b : StepAnswer) → accepted w a ≡ accepted 
 same-world w x a b e = ap (world_left w) e
 
 -- the forms that ran run on, as they did
-runs-on : (walks : Walks) (q after : Quiet) → ((a : Actor) → running_in a after ≡ running_in a q)
+runs-on : (walks : Walks) (q after : TenantState) → ((a : Actor) → running_in a after ≡ running_in a q)
     → AreWalked (walk_at walks) q → AreWalked (walk_at walks) after
 runs-on walks q after same walked = λ a run p runs at. walked a run p (sym (same a) ∙ runs) at
 
-deed-runs : (g : Ground) (q after : Quiet) (s : Store) (d : Deed) (answer : StepAnswer)
+deed-runs : (g : Ground) (q after : TenantState) (s : Store) (d : Deed) (answer : StepAnswer)
     → KeepsForms d → (deed_result g s q d).outcome ≡ leaves after answer
     → (a : Actor) → running_in a after ≡ running_in a q
 deed-runs g q after s (deeds.hears piece) answer keeps is a =
@@ -42,7 +42,7 @@ deed-runs g q after s (deeds.hears piece) answer keeps is a =
     ∙ heard-runs g s.tenant piece q a
 deed-runs g q after s deeds.drains answer keeps is a =
     drain_outcome-runs q after answer a q.replies
-    (sym (drains-by g (record { quiet = q; store = s })) ∙ is)
+    (sym (drains-by g (record { state = q; store = s })) ∙ is)
 deed-runs g q after s (deeds.starts b) answer keeps is a = absurd (keeps)
 deed-runs g q after s (deeds.asks_for b ask) answer keeps is a = absurd (keeps)
 deed-runs g q after s (deeds.ends b e) answer keeps is a = absurd (keeps)
@@ -59,12 +59,12 @@ deed-walked g w after t d answer walks keeps is walked = by (open_in t w) refl
     left kept there (refuses why) out never = absurd (cc)
     left kept there (leaves q x) out same =
         let e = deed_of g w t kept d in
-        let part : TenantData = record { quiet = q; mine = e.store.mine } in
+        let part : TenantData = record { state = q; mine = e.store.mine } in
         subst (λ y. AreWalkedIn walks (open_in t y)) (same-world _ after _ answer same)
         (subst (AreWalkedIn walks)
         (sym (open-mine w e.store.around t (Some part) kept there))
-        (runs-on walks kept.quiet q
-        (deed-runs g kept.quiet q (store_in w.around t kept.mine) d x keeps out)
+        (runs-on walks kept.state q
+        (deed-runs g kept.state q (store_in w.around t kept.mine) d x keeps out)
         (subst (AreWalkedIn walks) there walked)))
 
     by : (it : Option TenantData) → open_in t w ≡ it → AreWalkedIn walks (open_in t after)

@@ -5,13 +5,13 @@ use Rattle.std.proofs.Common.{sym, ap, subst, ◌∙◌}
 use Rattle.server_rules.specs.Ground.{Ground}
 use Rattle.ref_table.specs.Numbered.{part_under}
 use Rattle.server_rules.specs.Honest.{honest_deed}
-use Rattle.server_rules.specs.Machine.Turns.{goes, step_of, turn_step, quiet_of}
+use Rattle.server_rules.specs.Machine.Turns.{goes, step_of, turn_step, tenant_state_of}
 use Rattle.server_rules.specs.Machine.World.{TenantData, World, step, does, ended_as}
 use Rattle.server_rules.specs.declared.actor.Actor.{Actor}
 use Rattle.server_rules.specs.declared.refusal.Refusal.{Refusal}
 use Rattle.tenant_parts.specs.Serving.{RingRefTable}
 use Rattle.server_rules.specs.Grounds.{IsRight}
-use Rattle.server_rules.specs.LoneTurns.{Lone}
+use Rattle.server_rules.specs.LoneTurns.{LoneTenant}
 use Rattle.repl_core.specs.Grounds.{Evaluates}
 use Rattle.repl_core.specs.Inside.Seen.{is_seen}
 use Rattle.repl_core.specs.Inside.Standing as walked
@@ -33,14 +33,14 @@ use Rattle.repl_core.proofs.Behind.{ended-accepted}
 -- the turn is the honest deed
 pub honest_deed-turn : (g : Ground) (w : World) (t : ℕ) (a : Actor) (kept : TenantData)
     → open_in t w ≡ Some kept
-    → turn_step g w (goes t a) ≡ step g w (does t (honest_deed g a (Some (Some kept.quiet))))
+    → turn_step g w (goes t a) ≡ step g w (does t (honest_deed g a (Some (Some kept.state))))
 honest_deed-turn g w t a kept there =
-    ap (λ o. step g w (does t (honest_deed g a (option_map quiet_of o))))
+    ap (λ o. step g w (does t (honest_deed g a (option_map tenant_state_of o))))
     (found-open (part_under t w.tenants) kept there)
 
 -- the tenant that goes on
-abbrev lone_in : World → ℕ → TenantData → Lone
-lone_in w t kept = record { quiet = kept.quiet; store = store_in w.around t kept.mine }
+abbrev lone_in : World → ℕ → TenantData → LoneTenant
+lone_in w t kept = record { state = kept.state; store = store_in w.around t kept.mine }
 
 lone-stands : (g : Ground) (w : World) (t : ℕ) (old : Machine) (was : Tenant) (walks : Walks)
     (kept : TenantData) (s : MachineStands g old w) → IsRight g → Evaluates g
@@ -63,8 +63,8 @@ pub goes-so : {X : Type 0} (g : Ground) (w : World) (t : ℕ) (a : Actor) (old :
     (ts : Tenants) (table : RingRefTable) (was code : Tenant) (before walks : Walks)
     (res : Result X Refusal) (s : MachineStands g old w) → IsRight g → Evaluates g
     → tenant_at old.tenants t ≡ Some was → AreWalkedIn before (open_in t w)
-    → ((l : Lone) → walked.PartsStand g (parts was old.refs before) l s.refs
-    → OnOk res (walked.AcceptsHonestDeed g l s.refs (honest_deed g a (Some (Some l.quiet))) (parts code table walks)))
+    → ((l : LoneTenant) → walked.PartsStand g (parts was old.refs before) l s.refs
+    → OnOk res (walked.AcceptsHonestDeed g l s.refs (honest_deed g a (Some (Some l.state))) (parts code table walks)))
     → tenant_at ts t ≡ Some code
     → ((u : ℕ) → u ≢ t → tenant_at ts u ≡ tenant_at old.tenants u)
     → OnOk res (AcceptsHonestStep g w t a (machine_with old ts table) walks)
@@ -74,7 +74,7 @@ goes-so g w t a old ts table was code before walks (Ok x) s right ground there w
     others =
     let at = kept-at g s.refs t was (tenant_at old.tenants t) (open_in t w) (s.tenants t) there in
     let kept = at.0 in
-    let d = honest_deed g a (Some (Some kept.quiet)) in
+    let d = honest_deed g a (Some (Some kept.state)) in
     let it = did (lone_in w t kept)
     (lone-stands g w t old was before kept s right ground there at.1 walked) in
     let behind = world_behind g w t kept d it.after in
@@ -87,7 +87,7 @@ goes-so g w t a old ts table was code before walks (Ok x) s right ground there w
           it.stands.serves put others;
       walked = subst (AreWalkedIn walks)
           (sym (open-mine w (deed_of g w t kept d).store.around t
-          (Some (record { quiet = it.after; mine = (deed_of g w t kept d).store.mine })) kept at.1))
+          (Some (record { state = it.after; mine = (deed_of g w t kept d).store.mine })) kept at.1))
           it.stands.walked;
     }
 
@@ -95,8 +95,8 @@ pub halts-so : {X : Type 0} (g : Ground) (w : World) (t : ℕ) (a : Actor) (old 
     (ts : Tenants) (table : RingRefTable) (was code : Tenant) (before walks : Walks)
     (res : Result X Refusal) (s : MachineStands g old w) → IsRight g → Evaluates g
     → tenant_at old.tenants t ≡ Some was → AreWalkedIn before (open_in t w)
-    → ((l : Lone) → walked.PartsStand g (parts was old.refs before) l s.refs
-    → IfErr res (walked.RefusesHonestDeed g l s.refs (honest_deed g a (Some (Some l.quiet)))
+    → ((l : LoneTenant) → walked.PartsStand g (parts was old.refs before) l s.refs
+    → IfErr res (walked.RefusesHonestDeed g l s.refs (honest_deed g a (Some (Some l.state)))
     (parts code table walks)))
     → tenant_at ts t ≡ Some code
     → ((u : ℕ) → u ≢ t → tenant_at ts u ≡ tenant_at old.tenants u)
@@ -107,7 +107,7 @@ halts-so g w t a old ts table was code before walks (Err why) s right ground the
     others =
     let at = kept-at g s.refs t was (tenant_at old.tenants t) (open_in t w) (s.tenants t) there in
     let kept = at.0 in
-    let d = honest_deed g a (Some (Some kept.quiet)) in
+    let d = honest_deed g a (Some (Some kept.state)) in
     let it = told (lone_in w t kept)
     (lone-stands g w t old was before kept s right ground there at.1 walked) in
     record {
@@ -122,21 +122,21 @@ halts-so g w t a old ts table was code before walks (Err why) s right ground the
 pub accepts-goes : (g : Ground) (w : World) (t : ℕ) (a : Actor) (old : Machine) (was : Tenant)
     (walks : Walks) (kept : Bool) (s : MachineStands g old w) → IsRight g → Evaluates g
     → tenant_at old.tenants t ≡ Some was → AreWalkedIn walks (open_in t w)
-    → ((l : Lone) → walked.PartsStand g (parts was old.refs walks) l s.refs
-    → is_seen kept (honest_deed g a (Some (Some l.quiet))) ≡ true
-    → is_accepted (walked.comes_to g l (honest_deed g a (Some (Some l.quiet)))).outcome ≡ true)
+    → ((l : LoneTenant) → walked.PartsStand g (parts was old.refs walks) l s.refs
+    → is_seen kept (honest_deed g a (Some (Some l.state))) ≡ true
+    → is_accepted (walked.comes_to g l (honest_deed g a (Some (Some l.state)))).outcome ≡ true)
     → is_seen_step kept (step_of g w (goes t a)) ≡ true
     → is_accepted_step (turn_step g w (goes t a)) ≡ true
 accepts-goes g w t a old was walks kept s right ground there walked told seen =
     let at = kept-at g s.refs t was (tenant_at old.tenants t) (open_in t w) (s.tenants t) there in
     let mine = at.0 in
-    let d = honest_deed g a (Some (Some mine.quiet)) in
+    let d = honest_deed g a (Some (Some mine.state)) in
     let e = deed_of g w t mine d in
     let found = found-open (part_under t w.tenants) mine at.1 in
     ap is_accepted_step (honest_deed-turn g w t a mine at.1 ∙ step-deed g w t d mine at.1)
     ∙ ended-accepted w t e.store e.outcome (told (lone_in w t mine)
     (lone-stands g w t old was walks mine s right ground there at.1 walked)
-    (sym (ap (λ o. is_seen kept (honest_deed g a (option_map quiet_of o))) found)
+    (sym (ap (λ o. is_seen kept (honest_deed g a (option_map tenant_state_of o))) found)
     ∙ seen))
 
 -- of a tenant that is not there
@@ -146,7 +146,7 @@ pub halts-none : (g : Ground) (w : World) (t : ℕ) (a : Actor) (old : Machine) 
     → ((u : ℕ) → u ≢ t → tenant_at ts u ≡ tenant_at old.tenants u)
     → RefusesHonestStep g w t a (machine_with old ts old.refs) walks Refusal.NoSuchTenant
 halts-none g w t a old ts walks s walked none gone others = record {
-  refused = λ ne. step-none g w t (honest_deed g a (option_map quiet_of (part_under t w.tenants)))
+  refused = λ ne. step-none g w t (honest_deed g a (option_map tenant_state_of (part_under t w.tenants)))
       (none-at g s.refs t (tenant_at old.tenants t) (open_in t w) (s.tenants t) none);
   stands = stands-with g old w ts s (all-places
       (λ u. tenant_at ts u ≡ tenant_at old.tenants u) t (gone ∙ sym none)

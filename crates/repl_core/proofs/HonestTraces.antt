@@ -8,11 +8,11 @@ use Rattle.repl_asks.specs.Leading.{tree_after, AreItsAsks}
 use Rattle.ref_table.specs.Numbered.{part_under}
 use Rattle.server_rules.specs.Ground.{Ground}
 use Rattle.server_rules.specs.Honest.{honest_at, honest_of, honest_in, honest_by, honest_deed}
-use Rattle.server_rules.specs.Request.{Hand, Run}
+use Rattle.server_rules.specs.Request.{WorkInHand, Run}
 use Rattle.server_rules.specs.Tenant.{ActorData, seat_of}
 use Rattle.server_rules.specs.Plan.{Deed, asks_for}
 use Rattle.server_rules.specs.Asking.{answer_to}
-use Rattle.server_rules.specs.Machine.Turns.{goes, step_of, quiet_of}
+use Rattle.server_rules.specs.Machine.Turns.{goes, step_of, tenant_state_of}
 use Rattle.server_rules.specs.Machine.World.{World, Step, does, step, world_or, opened_world, run}
 use Rattle.server_rules.specs.declared.actor.Actor.{Actor}
 use Rattle.tenant_asks.specs.Asking.{exchange_from}
@@ -41,7 +41,7 @@ honest-is : (g : Ground) (a : Actor) (form : Run) (o : Option ActorData) → run
 honest-is g a form None never = absurd (cc)
 honest-is g a form (Some actor) runs = by actor.hand runs
   where
-    by : (h : Option Hand) → option_and_then (λ x. x.running) h ≡ Some form
+    by : (h : Option WorkInHand) → option_and_then (λ x. x.running) h ≡ Some form
         → honest_in g a h ≡ honest_at a form (tree_after (g.evaluation form.job) form.trace)
     by None never = absurd (cc)
     by (Some h) is = ap (honest_of g a) is
@@ -79,18 +79,18 @@ step-asked g w s t a honest all = by (step-moves g w s t a)
         let tree = tree_after (g.evaluation form.job) form.trace in
         let is : s ≡ does t (asks_for a it.asked.ask) = it.is ∙ ap (λ d. does t d) it.asked.is in
         let deed : step_of g w (goes t a) ≡ does t (honest_at a form tree) =
-        ap (λ o. does t (honest_deed g a (option_map quiet_of o)))
+        ap (λ o. does t (honest_deed g a (option_map tenant_state_of o)))
         (found-open (part_under t w.tenants) it.kept it.there)
         ∙ ap (λ d. does t d)
-        (honest-is g a form (part_under (seat_of a) it.kept.quiet.actors) it.asked.runs) in
+        (honest-is g a form (part_under (seat_of a) it.kept.state.actors) it.asked.runs) in
         let next = asks-next a form it.asked.ask tree
         (ap (deed_in (asks_for a it.asked.ask))
         (sym deed ∙ honest it.asked.ask is it.accepted ∙ is)) in
         let runs : form_in t a w ≡ Some form =
-        ap (option_and_then (λ kept. running_in a kept.quiet)) it.there ∙ it.asked.runs in
+        ap (option_and_then (λ kept. running_in a kept.state)) it.there ∙ it.asked.runs in
         subst (Asked g) (sym it.asked.form_after)
         (one-more (g.evaluation form.job) form.trace
-        (exchange_from it.asked.ask (answer_to g a it.kept.quiet it.asked.ask it.asked.told))
+        (exchange_from it.asked.ask (answer_to g a it.kept.state it.asked.ask it.asked.told))
         next.0 (subst (Asked g) runs all) next.1)
 
     by : StepMoves g w s (step g w s) t a → Asked g (form_in t a (world_or w (step g w s)))

@@ -5,7 +5,7 @@ use Rattle.server_rules.specs.Ground.{Ground}
 use Rattle.ref_table.specs.Numbered.{part_under}
 use Rattle.server_rules.specs.Plan.{ends}
 use Rattle.ref_table.specs.Store.{Store}
-use Rattle.server_rules.specs.Tenant.{Quiet, seat_of}
+use Rattle.server_rules.specs.Tenant.{TenantState, seat_of}
 use Rattle.server_rules.specs.Machine.World.{World, does}
 use Rattle.server_rules.specs.declared.actor.Actor.{Actor}
 use Rattle.tenant_world.specs.Running.{IsEndOfForm, running_of, running_in}
@@ -20,14 +20,14 @@ use Rattle.repl_core.proofs.Places.{kept-at}
 
 pub end-of-kept : (g : Ground) (w : World) (t : ℕ) (a : Actor) (m : Machine) (was : Tenant)
     (e : EndingData) (s : MachineStands g m w) → tenant_at m.tenants t ≡ Some was
-    → EndsAsKept w (does t (ends a e)) → (q : Quiet) (st : Store) → world.QuietStands g was q st
+    → EndsAsKept w (does t (ends a e)) → (q : TenantState) (st : Store) → world.StandsForState g was q st
     → IsEndOfForm (running_in a q) e.end e
 end-of-kept g w t a m was e s there known q st stands =
     let found = kept-at g s.refs t was (tenant_at m.tenants t) (open_in t w) (s.tenants t) there in
     let same : running_in a q ≡ form_in t a w =
     ap (λ actors. running_of (part_under (seat_of a) actors))
     (sym stands.actors ∙ (found.2.stands w.around).actors)
-    ∙ sym (ap (option_and_then (λ kept. running_in a kept.quiet)) found.1) in
+    ∙ sym (ap (option_and_then (λ kept. running_in a kept.state)) found.1) in
     record {
       end = refl;
       job = λ run is. (known run (sym same ∙ is)).0;

@@ -8,16 +8,16 @@ use Rattle.server_rules.specs.Cells.{must_wait}
 use Rattle.server_rules.specs.Ground.{Ground}
 use Rattle.server_rules.specs.Hearing.{stream_fault, new_messages, taken_in}
 use Rattle.ref_table.specs.Numbered.{part_under}
-use Rattle.server_rules.specs.Request.{Hand, Run}
+use Rattle.server_rules.specs.Request.{WorkInHand, Run}
 use Rattle.ref_table.specs.Store.{Store}
-use Rattle.server_rules.specs.Tenant.{ActorData, Quiet, seat_of, is_held}
+use Rattle.server_rules.specs.Tenant.{ActorData, TenantState, seat_of, is_held}
 use Rattle.server_rules.specs.Plan as deeds
 use Rattle.server_rules.specs.Plan.{Plan, Outcome, StepAnswer, refuses, leaves, with_step_spent}
 use Rattle.server_rules.specs.Plan.{quietly, messages_heard, ask_answered}
 use Rattle.server_rules.specs.Deeds.{for_actor}
 use Rattle.server_rules.specs.Asking.{asked_of, asked_running, asked_allowed, answer_outcome}
-use Rattle.server_rules.specs.Asking.{ask_outcome, may_ask, session_of}
-use Rattle.server_rules.specs.Asking.{answer_to, with_recorded_answer, quiet_after, call_of}
+use Rattle.server_rules.specs.Asking.{ask_outcome, may_ask, session_number}
+use Rattle.server_rules.specs.Asking.{answer_to, with_recorded_answer, state_after, call_of}
 use Rattle.server_rules.specs.Asking.{sender_of}
 use Rattle.server_rules.specs.Asking.{is_allowed, when_told}
 use Rattle.server_rules.specs.Starting.{interrupted_in}
@@ -31,11 +31,11 @@ use Rattle.tenant_world.proofs.Heard.{heard_by, hears-by}
 use Rattle.repl_core.proofs.Runs.{part_under-put}
 
 -- what is left
-abbrev left_of : Quiet → Outcome → Quiet
+abbrev left_of : TenantState → Outcome → TenantState
 left_of q (refuses why) = q
 left_of q (leaves after answer) = after
 
-pub heard-after : (g : Ground) (q : Quiet) (s : Store) (piece : List ℕ) (after : Quiet)
+pub heard-after : (g : Ground) (q : TenantState) (s : Store) (piece : List ℕ) (after : TenantState)
     (answer : StepAnswer) → (deed_result g s q (deeds.hears piece)).outcome ≡ leaves after answer
     → after ≡ with_step_spent (taken_in g s.tenant piece q)
 heard-after g q s piece after answer is =
@@ -54,7 +54,7 @@ heard-after g q s piece after answer is =
     by false None same = held (is_held q) same
 
 -- an ask that was answered is in the trace of the form that runs
-pub answered-after : (g : Ground) (q : Quiet) (s : Store) (a : Actor) (ask : AskData) (after : Quiet)
+pub answered-after : (g : Ground) (q : TenantState) (s : Store) (a : Actor) (ask : AskData) (after : TenantState)
     (ans : AnswerData) (run : Run)
     → (deed_result g s q (deeds.asks_for a ask)).outcome ≡ leaves after (ask_answered ans)
     → running_in a q ≡ Some run
@@ -65,7 +65,7 @@ answered-after g q s a ask after ans run is runs =
     p : ActorData → Plan
     p actor = asked_of g a actor ask q actor.hand
 
-    waits : (actor : ActorData) (h : Hand) → part_under (seat_of a) q.actors ≡ Some actor
+    waits : (actor : ActorData) (h : WorkInHand) → part_under (seat_of a) q.actors ≡ Some actor
         → (x : AnswerData) (b : Bool)
         → (if b then refuses Refusal.Waiting else ask_outcome g a actor h run ask q x)
         ≡ leaves after (ask_answered ans)
@@ -75,7 +75,7 @@ answered-after g q s a ask after ans run is runs =
         let answer = answer_to g a q ask x in
         let more = run_with (exchange_from ask answer) run in
         let new = record actor { hand = Some (record h { running = Some more }) } in
-        let later = quiet_after (sender_of a h) ask answer q in
+        let later = state_after (sender_of a h) ask answer q in
         let behind : after ≡ with_step_spent (with_recorded_answer a actor h run ask answer later) =
         sym (ap (left_of q) same) in
         let equal : answer ≡ ans = cc in
@@ -83,19 +83,19 @@ answered-after g q s a ask after ans run is runs =
         ∙ ap running_of ((part_under-put (seat_of a) (seat_of a) new actor q.actors there).0 refl)
         ∙ ap (λ y. Some (run_with (exchange_from ask y) run)) equal
 
-    told : (actor : ActorData) (h : Hand) → part_under (seat_of a) q.actors ≡ Some actor
+    told : (actor : ActorData) (h : WorkInHand) → part_under (seat_of a) q.actors ≡ Some actor
         → (o : Option AnswerData)
         → when_told o (answer_outcome g a actor h run ask q) ≡ leaves after (ask_answered ans)
         → running_in a after ≡ Some (run_with (exchange_from ask ans) run)
     told actor h there None never = absurd (cc)
-    told actor h there (Some x) same = waits actor h there x (must_wait (session_of a) ask q.cells) same
+    told actor h there (Some x) same = waits actor h there x (must_wait (session_number a) ask q.cells) same
 
-    interrupted : (h : Hand) → (o : Option AnswerData)
+    interrupted : (h : WorkInHand) → (o : Option AnswerData)
         → when_told o (λ _. interrupted_in a h q) ≡ leaves after (ask_answered ans) → ⊥
     interrupted h None never = absurd (cc)
     interrupted h (Some x) never = absurd (cc)
 
-    closed : (actor : ActorData) (h : Hand) → part_under (seat_of a) q.actors ≡ Some actor → (b : Bool)
+    closed : (actor : ActorData) (h : WorkInHand) → part_under (seat_of a) q.actors ≡ Some actor → (b : Bool)
         → (carried_out s (if b then record {
           call = gives_up (seat_of a) (call_of (seat_of a) ask);
           next = λ told. when_told told (λ _. interrupted_in a h q);
@@ -109,21 +109,21 @@ answered-after g q s a ask after ans run is runs =
     closed actor h there false same =
         told actor h there (performed s (call_of (seat_of a) ask)).told same
 
-    allowed : (actor : ActorData) (h : Hand) → part_under (seat_of a) q.actors ≡ Some actor → (b : Bool)
+    allowed : (actor : ActorData) (h : WorkInHand) → part_under (seat_of a) q.actors ≡ Some actor → (b : Bool)
         → (carried_out s (if b then asked_allowed g a actor h run ask q
         else quietly (refuses Refusal.Idle))).outcome ≡ leaves after (ask_answered ans)
         → running_in a after ≡ Some (run_with (exchange_from ask ans) run)
     allowed actor h there true same = closed actor h there actor.is_closed same
     allowed actor h there false never = absurd (cc)
 
-    of_run : (actor : ActorData) (h : Hand) → part_under (seat_of a) q.actors ≡ Some actor
+    of_run : (actor : ActorData) (h : WorkInHand) → part_under (seat_of a) q.actors ≡ Some actor
         → (r : Option Run) → r ≡ Some run
         → (carried_out s (asked_running g a actor h ask q r)).outcome ≡ leaves after (ask_answered ans)
         → running_in a after ≡ Some (run_with (exchange_from ask ans) run)
     of_run actor h there r some same = allowed actor h there (may_ask a ask && is_allowed ask q.cells)
         (sym (ap (λ x. (carried_out s (asked_running g a actor h ask q x)).outcome) some) ∙ same)
 
-    in_hand : (actor : ActorData) → part_under (seat_of a) q.actors ≡ Some actor → (h : Option Hand)
+    in_hand : (actor : ActorData) → part_under (seat_of a) q.actors ≡ Some actor → (h : Option WorkInHand)
         → option_and_then (λ x. x.running) h ≡ Some run
         → (carried_out s (asked_of g a actor ask q h)).outcome ≡ leaves after (ask_answered ans)
         → running_in a after ≡ Some (run_with (exchange_from ask ans) run)

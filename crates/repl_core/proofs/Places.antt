@@ -8,7 +8,7 @@ use Rattle.value_data.specs.Datum.{tenant}
 use Rattle.server_rules.specs.Ground.{Ground}
 use Rattle.ref_table.specs.Numbered.{part_under, with_part}
 use Rattle.ref_table.specs.Store.{Around, Store}
-use Rattle.server_rules.specs.Tenant.{Quiet}
+use Rattle.server_rules.specs.Tenant.{TenantState}
 use Rattle.server_rules.specs.Machine.World.{TenantData, World}
 use Rattle.ref_table.specs.Refs.{Refs, refs_after}
 use Rattle.tenant_parts.specs.Attempts.{ArePoints}
@@ -18,7 +18,7 @@ use Rattle.tenant_asks.specs.Memories.{Remembers}
 use Rattle.tenant_world.specs.Standing as world
 use Rattle.tenant_world.specs.declared.tenant.Tenant.{Tenant}
 use Rattle.repl_core.specs.TenantAt.{tenant_at}
-use Rattle.repl_core.specs.Lending.{IsLeft}
+use Rattle.repl_core.specs.Lending.{LeavesTenant}
 use Rattle.repl_core.specs.Standing.{open_in, store_in, around_in, TenantStands, PlaceStands}
 use Rattle.repl_core.specs.Standing.{MachineStands}
 use Rattle.repl_core.specs.declared.machine.Machine.{Machine}
@@ -26,9 +26,9 @@ use Rattle.repl_core.specs.declared.tenants.Tenants.{Tenants}
 use Rattle.repl_core.proofs.Worlds.{found-open}
 
 -- the code stands for a tenant, whatever all have in common
-pub world-stands : (g : Ground) (code : Tenant) (q : Quiet) (s new : Store)
-    → new.tenant ≡ s.tenant → new.mine.points ≡ s.mine.points → world.QuietStands g code q s
-    → world.QuietStands g code q new
+pub world-stands : (g : Ground) (code : Tenant) (q : TenantState) (s new : Store)
+    → new.tenant ≡ s.tenant → new.mine.points ≡ s.mine.points → world.StandsForState g code q s
+    → world.StandsForState g code q new
 world-stands g code q s new same points st = record {
   retries = st.retries;
   steps = st.steps;
@@ -42,9 +42,9 @@ world-stands g code q s new same points st = record {
 }
 
 -- a tenant behind its step
-pub tenant-stands : (g : Ground) (r : Refs) (t : ℕ) (code : Tenant) (q : Quiet) (s : Store)
-    → s.tenant ≡ t → s.mine.refs ≡ r.owned (tenant t) → world.QuietStands g code q s
-    → TenantStands g r t code (record { quiet = q; mine = s.mine })
+pub tenant-stands : (g : Ground) (r : Refs) (t : ℕ) (code : Tenant) (q : TenantState) (s : Store)
+    → s.tenant ≡ t → s.mine.refs ≡ r.owned (tenant t) → world.StandsForState g code q s
+    → TenantStands g r t code (record { state = q; mine = s.mine })
 tenant-stands g r t code q s same refs st = record {
   stands = λ around. world-stands g code q s (store_in around t s.mine) (sym same) refl st;
   refs = refs;
@@ -65,8 +65,8 @@ serves-in g m w t code kept s it = record {
 
 -- a tenant that was lent
 pub left-so : {old new : Tenants} {t : ℕ} {r : Option (MutBor Tenant)} {m : MutBor Tenant}
-    {left : Tenant} → r ≡ Some m → OnSome r (IsLeft old new t left) → IsLeft old new t left
-left-so {old} {new} {t} {left = left} is so = subst (λ o. OnSome o (IsLeft old new t left)) is so
+    {left : Tenant} → r ≡ Some m → OnSome r (LeavesTenant old new t left) → LeavesTenant old new t left
+left-so {old} {new} {t} {left = left} is so = subst (λ o. OnSome o (LeavesTenant old new t left)) is so
 
 pub there-some : (o : Option Tenant) → is_some o ≡ true → (code : Tenant) × (o ≡ Some code)
 there-some None is = absurd (true≢false (sym is))
@@ -180,11 +180,11 @@ owned-mine s r t same =
 
 -- what a tenant that is open shows
 pub shown-of : {X : Type 0} (g : Ground) (m : Machine) (w : World) (t : ℕ) (code : Tenant)
-    (show : Quiet → Option X) (shown : Option X) (s : MachineStands g m w)
+    (show : TenantState → Option X) (shown : Option X) (s : MachineStands g m w)
     → tenant_at m.tenants t ≡ Some code
-    → ((q : Quiet) (st : Store) → world.QuietStands g code q st → shown ≡ show q)
-    → shown ≡ option_and_then (λ it. show it.quiet) (open_in t w)
+    → ((q : TenantState) (st : Store) → world.StandsForState g code q st → shown ≡ show q)
+    → shown ≡ option_and_then (λ it. show it.state) (open_in t w)
 shown-of g m w t code show shown s there is =
     let at = kept-at g s.refs t code (tenant_at m.tenants t) (open_in t w) (s.tenants t) there in
-    is at.0.quiet (store_in w.around t at.0.mine) (at.2.stands w.around)
-    ∙ sym (ap (option_and_then (λ it. show it.quiet)) at.1)
+    is at.0.state (store_in w.around t at.0.mine) (at.2.stands w.around)
+    ∙ sym (ap (option_and_then (λ it. show it.state)) at.1)

@@ -12,7 +12,7 @@ use Rattle.ref_table.specs.Store.{Store, ref_named}
 use Rattle.ref_table.specs.Performed.{Performed}
 use Rattle.ref_table.specs.Calls.{reads, read_at, read_by, given_up, performed}
 use Rattle.server_rules.specs.Ground.{Ground}
-use Rattle.server_rules.specs.Request.{Hand, Run}
+use Rattle.server_rules.specs.Request.{WorkInHand, Run}
 use Rattle.server_rules.specs.Tenant.{ActorData, seat_of}
 use Rattle.server_rules.specs.Plan.{asks_for, ask_answered, Plan}
 use Rattle.server_rules.specs.Starting.{interrupted_in}
@@ -57,19 +57,19 @@ module _ (g : Ground) (w after : World) (t : ℕ) (a : Actor) (name : RefNameDat
   Reads p = planned_step w t kept p ≡ accepted after (ask_answered answer)
       → IsOfPoint point (ref_in_world name w) answer
 
-  reads-closed : (h : Hand) → Reads (closed_plan a h (read name) kept.quiet)
+  reads-closed : (h : WorkInHand) → Reads (closed_plan a h (read name) kept.state)
   reads-closed h = by (performed (store_in w.around t kept.mine) (reads (seat_of a) name)).told
     where
       by : (o : Option AnswerData)
           → ended_as w t (given_up (seat_of a) (store_in w.around t kept.mine) o).store
           (when_told (given_up (seat_of a) (store_in w.around t kept.mine) o).told
-          (λ _. interrupted_in a h kept.quiet))
+          (λ _. interrupted_in a h kept.state))
           ≡ accepted after (ask_answered answer) → IsOfPoint point (ref_in_world name w) answer
       by None e = absurd (never-refused _ _ _ e)
       by (Some v) e = let same = same-answer _ _ _ _ e in absurd (cc)
 
-  reads-open : (actor : ActorData) (h : Hand) (form : Run)
-      → Reads (open_plan g a actor h form (read name) kept.quiet)
+  reads-open : (actor : ActorData) (h : WorkInHand) (form : Run)
+      → Reads (open_plan g a actor h form (read name) kept.state)
   reads-open actor h form = from (part_under (seat_of a) kept.mine.points) began
     where
       s : Store
@@ -77,7 +77,7 @@ module _ (g : Ground) (w after : World) (t : ℕ) (a : Actor) (name : RefNameDat
 
       Comes : Performed Store → Type 0
       Comes called = ended_as w t called.store
-          (when_told called.told (answer_outcome g a actor h form (read name) kept.quiet))
+          (when_told called.told (answer_outcome g a actor h form (read name) kept.state))
           ≡ accepted after (ask_answered answer) → IsOfPoint point (ref_in_world name w) answer
 
       at : (r : Ref) → ref_named name s ≡ Some r → (o : Option Datum) → readable point r ≡ o
@@ -102,8 +102,8 @@ module _ (g : Ground) (w after : World) (t : ℕ) (a : Actor) (name : RefNameDat
       from o is = subst (λ o. Comes (read_by (seat_of a) name s o (ref_named name s))) (sym is)
           (by (ref_named name s) refl)
 
-  reads-planned : Reads (plan g t kept.quiet (asks_for a (read name)))
-  reads-planned = asked-by Reads g a (read name) kept.quiet
+  reads-planned : Reads (plan g t kept.state (asks_for a (read name)))
+  reads-planned = asked-by Reads g a (read name) kept.state
       (λ why e. absurd (never-refused _ _ _ e)) reads-closed reads-open t
 
 asked-of-point : (g : Ground) (w after : World) (t : ℕ) (a : Actor) (name : RefNameData)

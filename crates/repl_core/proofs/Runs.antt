@@ -12,8 +12,8 @@ use Rattle.server_rules.specs.Hearing.{with_messages, new_messages, taken_in}
 use Rattle.ref_table.specs.Numbered.{Entry, entry, part_under, with_part, without}
 use Rattle.server_rules.specs.Operating.{named_sessions, closed_by, with_vacated_seat, asker}
 use Rattle.server_rules.specs.Operating.{queued_for, after_operation, with_asked, with_message}
-use Rattle.server_rules.specs.Request.{Waiting, Hand, Run}
-use Rattle.server_rules.specs.Tenant.{ActorData, unoccupied, seat_of, Quiet}
+use Rattle.server_rules.specs.Request.{Waiting, WorkInHand, Run}
+use Rattle.server_rules.specs.Tenant.{ActorData, unoccupied, seat_of, TenantState}
 use Rattle.server_rules.specs.declared.actor.Actor.{Actor}
 use Rattle.tenant_parts.proofs.EntryLaws.{found_first, replaced_first, without_first}
 use Rattle.tenant_world.specs.Running.{running_of, running_in}
@@ -110,28 +110,28 @@ come-runs m n (e ∷ es) = by (come-runs m n es) (m == e.number)
     by behind false = behind
 
 with_vacated_seat-runs : (m n : ℕ) (y : ActorData) (es : List (Entry ActorData)) → part_under n es ≡ Some y
-    → (h : Option Hand) → y.hand ≡ h → runs_at m (with_vacated_seat n h es) ≡ runs_at m es
+    → (h : Option WorkInHand) → y.hand ≡ h → runs_at m (with_vacated_seat n h es) ≡ runs_at m es
 with_vacated_seat-runs m n y es there None is = gone-runs m n y es there
     (ap (option_and_then (λ h. h.running)) is)
 with_vacated_seat-runs m n y es there (Some h) is =
     put-runs m n (record { waiting = []; hand = Some h; is_closed = true }) y es there
     (sym (ap (option_and_then (λ h. h.running)) is))
 
-closed-runs : (m : ℕ) (o : OriginData) (n : ℕ) (q : Quiet) (found_actor : Option ActorData)
+closed-runs : (m : ℕ) (o : OriginData) (n : ℕ) (q : TenantState) (found_actor : Option ActorData)
     → part_under (seat_of (Actor.Session n)) q.actors ≡ found_actor
     → runs_at m (closed_by o n q found_actor).actors ≡ runs_at m q.actors
 closed-runs m o n q None is = refl
 closed-runs m o n q (Some y) is =
     with_vacated_seat-runs m (seat_of (Actor.Session n)) y q.actors is y.hand refl
 
-queued-runs : (m : ℕ) (a : Actor) (w : Waiting) (q : Quiet) (found_actor : Option ActorData)
+queued-runs : (m : ℕ) (a : Actor) (w : Waiting) (q : TenantState) (found_actor : Option ActorData)
     → part_under (seat_of a) q.actors ≡ found_actor
     → runs_at m (queued_for a w q found_actor).actors ≡ runs_at m q.actors
 queued-runs m a w q None is = refl
 queued-runs m a w q (Some y) is =
     put-runs m (seat_of a) (record y { waiting = y.waiting ++ w ∷ [] }) y q.actors is refl
 
-after_operation-runs : (g : Ground) (t m : ℕ) (o : OriginData) (op : OperationData) (q : Quiet)
+after_operation-runs : (g : Ground) (t m : ℕ) (o : OriginData) (op : OperationData) (q : TenantState)
     → runs_at m (after_operation g t o op q).actors ≡ runs_at m q.actors
 after_operation-runs g t m o (operations.clone original) q =
     come-runs m (seat_of (Actor.Session q.sessions.opened)) q.actors
@@ -143,12 +143,12 @@ after_operation-runs g t m o (operations.eval session text ns) q =
 after_operation-runs g t m o (operations.load_file session text) q =
     queued-runs m (asker session) _ q _ refl
 
-asked-runs : (g : Ground) (t m : ℕ) (r : Result AskedData ReplyData) (q : Quiet)
+asked-runs : (g : Ground) (t m : ℕ) (r : Result AskedData ReplyData) (q : TenantState)
     → runs_at m (with_asked g t r q).actors ≡ runs_at m q.actors
 asked-runs g t m (Ok a) q = after_operation-runs g t m a.origin a.operation q
 asked-runs g t m (Err refusal) q = refl
 
-message-runs : (g : Ground) (t m : ℕ) (message : Tree) (q : Quiet)
+message-runs : (g : Ground) (t m : ℕ) (message : Tree) (q : TenantState)
     → runs_at m (with_message g t message q).actors ≡ runs_at m q.actors
 unfolding with_message
 message-runs g t m (dictionary fields) q =
@@ -157,14 +157,14 @@ message-runs g t m (integer n) q = refl
 message-runs g t m (string bytes) q = refl
 message-runs g t m (list ts) q = refl
 
-messages-runs : (g : Ground) (t m : ℕ) (ms : List Tree) (q : Quiet)
+messages-runs : (g : Ground) (t m : ℕ) (ms : List Tree) (q : TenantState)
     → runs_at m (with_messages g t ms q).actors ≡ runs_at m q.actors
 messages-runs g t m [] q = refl
 messages-runs g t m (message ∷ ms) q =
     messages-runs g t m ms (with_message g t message q) ∙ message-runs g t m message q
 
 -- what an actor runs, it runs behind a piece
-pub heard-runs : (g : Ground) (t : ℕ) (piece : List ℕ) (q : Quiet) (a : Actor)
+pub heard-runs : (g : Ground) (t : ℕ) (piece : List ℕ) (q : TenantState) (a : Actor)
     → running_in a (taken_in g t piece q) ≡ running_in a q
 unfolding taken_in
 heard-runs g t piece q a =

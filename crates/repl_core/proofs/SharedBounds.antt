@@ -16,7 +16,7 @@ use Rattle.server_rules.specs.Shared.{SharedData, nothing_shared, told_in_text, 
 use Rattle.server_rules.specs.Shared.{left_by_form, when_told_in_text, shared_by, text_job}
 use Rattle.server_rules.specs.Shared.{shared_by_forms, unless_unread, shared_by_text}
 use Rattle.server_rules.specs.Machine.World.{opened_world, run}
-use Rattle.repl_core.specs.Configured.{text_of}
+use Rattle.repl_core.specs.Configured.{shared_text}
 use Rattle.repl_core.specs.SharedBounds.{SharedBoundsAreFixed}
 use Rattle.repl_core.proofs.SharedRefs.{shown_at, run-shows}
 
@@ -106,7 +106,7 @@ bounds-fixed g config steps n r configured is = from (slice_get g.shared.refs n)
     from None at e = absurd (cc)
     from (Some first) at e =
         let made = fixed-at g.shared.refs n first
-        (text-fixed g.readings g.evaluation (text_of config.shared) g.shared configured.shared)
+        (text-fixed g.readings g.evaluation (shared_text config.shared) g.shared configured.shared)
         at in
         let shown : shown_at 0 r ≡ shown_at 0 first = cc in
         (ap (λ it. it.least) shown ∙ made.0, ap (λ it. it.most) shown ∙ made.1)

@@ -191,7 +191,7 @@ deed-shows : (point : ℕ) (g : Ground) (w : World) (t : ℕ) (d : Deed)
 deed-shows point g w t d None reached = shows-same point w.around
 deed-shows point g w t d (Some None) reached = shows-same point w.around
 deed-shows point g w t d (Some (Some kept)) reached =
-    let p = plan g t kept.quiet d in
+    let p = plan g t kept.state d in
     let s : Store = store_in w.around t kept.mine in
     let called = performed s p.call in
     ended-shows point w t called.store (p.next called.told) (call-shows point s p.call reached)

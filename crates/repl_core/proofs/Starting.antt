@@ -10,13 +10,13 @@ use Rattle.server_rules.specs.Shared.{SharedData, shared_by_text}
 use Rattle.ref_history.specs.Versioned.{Ref}
 use Rattle.server_rules.specs.Machine.World.{opened_world}
 use Rattle.tenant_parts.specs.Serving.{RingRefTable}
-use Rattle.tenant_parts.specs.Sound.{IsSound, AreSound}
+use Rattle.tenant_parts.specs.Sound.{IsSoundRef, AreSound}
 use Rattle.shared_space.specs.Holding.{HoldsRefs}
 use Rattle.shared_space.specs.Loaded.{IsLoaded}
 use Rattle.shared_space.specs.declared.space.SharedSpace.{SharedSpace}
 use Rattle.evaluation_rules.specs.Evaluation.{evaluation}
 use Rattle.server_rules.specs.Readings.{Readings, AreRight}
-use Rattle.repl_core.specs.Configured.{IsConfigured, text_of}
+use Rattle.repl_core.specs.Configured.{IsConfigured, shared_text}
 use Rattle.repl_core.specs.Starting.{HasFault}
 use Rattle.repl_core.specs.Standing.{MachineStands, around_in, is_reached}
 use Rattle.repl_core.specs.TenantAt.{tenant_at}
@@ -29,8 +29,8 @@ ok-same : (x y : SharedData) (r : Result SharedData Failure) → r ≡ Ok x → 
 ok-same x y r one other = cc
 
 held-sound : (table : RingRefTable) (rs : List Ref) (h : HoldsRefs table rs) → AreSound h.all
-held-sound table rs h shared = subst (AllByRecursion IsSound) (sym h.common) h.sound
-held-sound table rs h (tenant t) = subst (AllByRecursion IsSound) (sym (h.none t)) tt
+held-sound table rs h shared = subst (AllByRecursion IsSoundRef) (sym h.common) h.sound
+held-sound table rs h (tenant t) = subst (AllByRecursion IsSoundRef) (sym (h.none t)) tt
 
 held-around : (table : RingRefTable) (rs : List Ref) (h : HoldsRefs table rs)
     → around_in h.all ≡ record { counter = 0; refs = rs }
@@ -52,7 +52,7 @@ pub record IsFirst (m : Machine) (config : Config) (space : SharedSpace) : Type 
 
 pub stands-first : (g : Ground) (config : Config) (m : Machine) (space : SharedSpace)
     → IsConfigured g config → IsFirst m config space
-    → IsLoaded (shared_by_text g.readings g.evaluation (text_of config.shared)) space
+    → IsLoaded (shared_by_text g.readings g.evaluation (shared_text config.shared)) space
     → MachineStands g m (opened_world g)
 stands-first g config m space it first loaded =
     let s = loaded.0 in
@@ -84,9 +84,9 @@ not-both s f r one other = absurd (cc)
 pub there-is : (config : Config) (space : SharedSpace)
     → ((g : Ground) × IsConfigured g config) ⊎ HasFault config
     → ((r : Readings) → AreRight r
-    → IsLoaded (shared_by_text r evaluation (text_of config.shared)) space)
+    → IsLoaded (shared_by_text r evaluation (shared_text config.shared)) space)
     → (g : Ground) × IsConfigured g config
 there-is config space (inl it) loaded = it
 there-is config space (inr h) loaded =
     let so = loaded h.readings h.right in
-    not-both so.0 h.failure (shared_by_text h.readings evaluation (text_of config.shared)) so.1 h.faults
+    not-both so.0 h.failure (shared_by_text h.readings evaluation (shared_text config.shared)) so.1 h.faults

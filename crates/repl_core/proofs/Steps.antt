@@ -6,7 +6,7 @@ use Rattle.repl_replies.specs.Replies.{ReplyData}
 use Rattle.repl_walker.specs.declared.waiting.Progress.{Progress}
 use Rattle.server_rules.specs.Ground.{Ground}
 use Rattle.server_rules.specs.Request.{Run}
-use Rattle.server_rules.specs.Tenant.{Quiet, seat_of}
+use Rattle.server_rules.specs.Tenant.{TenantState, seat_of}
 use Rattle.server_rules.specs.Plan as deeds
 use Rattle.server_rules.specs.Plan.{Deed, Outcome, StepAnswer, refuses, leaves, messages_heard}
 use Rattle.server_rules.specs.Plan.{ask_answered}
@@ -17,7 +17,7 @@ use Rattle.server_rules.specs.declared.refusal.Refusal.{Refusal}
 use Rattle.ref_table.specs.Refs.{Refs, refs_after}
 use Rattle.tenant_parts.specs.Serving.{RingRefTable, TableServes}
 use Rattle.server_rules.specs.DeedResult.{deed_result}
-use Rattle.server_rules.specs.LoneTurns.{Lone}
+use Rattle.server_rules.specs.LoneTurns.{LoneTenant}
 use Rattle.tenant_world.specs.declared.tenant.Tenant.{Tenant}
 use Rattle.tenant_world.specs.Running.{running_of, running_in}
 use Rattle.tenant_world.specs.Standing as world
@@ -32,9 +32,9 @@ use Rattle.repl_core.proofs.WalkSteps.{walked-all, some-same}
 use Rattle.repl_core.proofs.Stores.{Reached, serves-all-still, hears-reached, drains-reached}
 
 -- an actor's step, behind which no evaluation of it is kept
-pub does-removed : (g : Ground) (l : Lone) (r : Refs) (deed : Deed) (a : Actor) (old new : Parts)
+pub does-removed : (g : Ground) (l : LoneTenant) (r : Refs) (deed : Deed) (a : Actor) (old new : Parts)
     (answer : StepAnswer) → PartsStand g old l r
-    → world.AcceptsDeedBy g a l.quiet (comes_to g l deed) new.tenant answer
+    → world.AcceptsDeedBy g a l.state (comes_to g l deed) new.tenant answer
     → TableServes new.table (comes_to g l deed).store (refs_after (comes_to g l deed).store r)
     → walk_at new.walks a ≡ None
     → ((b : Actor) → seat_of b ≢ seat_of a → walk_at new.walks b ≡ walk_at old.walks b)
@@ -56,9 +56,9 @@ does-removed g l r deed a old new answer s does serves gone others = record {
 }
 
 -- the evaluations are others, and walked as well
-pub stands-found : (g : Ground) (l : Lone) (r : Refs) (tenant : Tenant) (table : RingRefTable)
+pub stands-found : (g : Ground) (l : LoneTenant) (r : Refs) (tenant : Tenant) (table : RingRefTable)
     (old new : Walks) → PartsStand g (parts tenant table old) l r
-    → (AreWalked (walk_at old) l.quiet → AreWalked (walk_at new) l.quiet)
+    → (AreWalked (walk_at old) l.state → AreWalked (walk_at new) l.state)
     → PartsStand g (parts tenant table new) l r
 stands-found g l r tenant table old new s found = record {
   right = s.right;
@@ -69,7 +69,7 @@ stands-found g l r tenant table old new s found = record {
 }
 
 -- refused for want of memory
-pub refused-memory : {X : Type 0} (g : Ground) (l : Lone) (r : Refs) (deed : Deed) (p : Parts)
+pub refused-memory : {X : Type 0} (g : Ground) (l : LoneTenant) (r : Refs) (deed : Deed) (p : Parts)
     (res : Result X Refusal) → IsErrAnd res (λ e. e ≡ Refusal.NoMemory) → PartsStand g p l r
     → IfErr res (RefusesHonestDeed g l r deed p)
 refused-memory g l r deed p (Ok x) is s = tt
@@ -79,17 +79,17 @@ refused-memory g l r deed p (Err e) is s = record {
 }
 
 -- the table, where the deed leaves the refs
-pub serves-same : (g : Ground) (l : Lone) (r : Refs) (deed : Deed) (old : Parts) (s : PartsStand g old l r)
+pub serves-same : (g : Ground) (l : LoneTenant) (r : Refs) (deed : Deed) (old : Parts) (s : PartsStand g old l r)
     → Reached l.store (comes_to g l deed).store
     → TableServes old.table (comes_to g l deed).store (refs_after (comes_to g l deed).store r)
 serves-same g l r deed old s reached =
     serves-all-still old.table l.store (comes_to g l deed).store r s.serves reached
 
 -- a refused step
-pub refused-parts : {X : Type 0} (g : Ground) (l : Lone) (r : Refs) (deed : Deed) (old : Parts)
+pub refused-parts : {X : Type 0} (g : Ground) (l : LoneTenant) (r : Refs) (deed : Deed) (old : Parts)
     (tenant : Tenant) (table : RingRefTable) (why : Refusal) (res : Result X Refusal) (s : PartsStand g old l r)
     → IsErrAnd res (λ e. e ≡ why)
-    → world.RefusesDeed g l.quiet l.store (comes_to g l deed) tenant why
+    → world.RefusesDeed g l.state l.store (comes_to g l deed) tenant why
     → TableServes table l.store r
     → IfErr res (RefusesHonestDeed g l r deed (parts tenant table old.walks))
 refused-parts g l r deed old tenant table why (Ok x) s never told serves = tt
@@ -106,12 +106,12 @@ refused-parts g l r deed old tenant table why (Err e) s is told serves =
     })
 
 -- a piece that was heard
-pub does-heard : (g : Ground) (l : Lone) (r : Refs) (piece : List ℕ) (old : Parts) (tenant : Tenant)
+pub does-heard : (g : Ground) (l : LoneTenant) (r : Refs) (piece : List ℕ) (old : Parts) (tenant : Tenant)
     (count : ℕ) → PartsStand g old l r
     → world.AcceptsDeed g (comes_to g l (deeds.hears piece)) tenant (messages_heard count)
     → AcceptsHonestDeed g l r (deeds.hears piece) (parts tenant old.table old.walks)
 does-heard g l r piece old tenant count s does =
-    let behind = heard-after g l.quiet l.store piece does.after _ does.accepted in
+    let behind = heard-after g l.state l.store piece does.after _ does.accepted in
     record {
       after = does.after;
       answer = messages_heard count;
@@ -121,30 +121,30 @@ does-heard g l r piece old tenant count s does =
         ground = s.ground;
         tenant = does.stands;
         serves = serves-same g l r (deeds.hears piece) old s
-            (hears-reached g l.quiet l.store piece);
+            (hears-reached g l.state l.store piece);
         walked = λ a run p runs at.
-            s.walked a run p (sym (heard-runs g l.store.tenant piece l.quiet a)
+            s.walked a run p (sym (heard-runs g l.store.tenant piece l.state a)
             ∙ sym (ap (running_in a) behind) ∙ runs) at;
       };
     }
 
 -- a reply that was taken out
-pub drain_outcome-runs : (q after : Quiet) (answer : StepAnswer) (a : Actor) (replies : List ReplyData)
+pub drain_outcome-runs : (q after : TenantState) (answer : StepAnswer) (a : Actor) (replies : List ReplyData)
     → drain_outcome q replies ≡ leaves after answer → running_in a after ≡ running_in a q
 drain_outcome-runs q after answer a [] never = absurd (cc)
 drain_outcome-runs q after answer a (oldest ∷ more) is = ap (running_in a) (sym (ap left_of is))
   where
-    left_of : Outcome → Quiet
+    left_of : Outcome → TenantState
     left_of (refuses why) = q
     left_of (leaves x y) = x
 
-pub drains-by : (g : Ground) (l : Lone)
-    → (comes_to g l deeds.drains).outcome ≡ drain_outcome l.quiet l.quiet.replies
+pub drains-by : (g : Ground) (l : LoneTenant)
+    → (comes_to g l deeds.drains).outcome ≡ drain_outcome l.state l.state.replies
 unfolding deed_result
 drains-by g l = refl
 
 -- a reply was taken out
-pub does-drained : (g : Ground) (l : Lone) (r : Refs) (old : Parts) (tenant : Tenant)
+pub does-drained : (g : Ground) (l : LoneTenant) (r : Refs) (old : Parts) (tenant : Tenant)
     (answer : StepAnswer) → PartsStand g old l r
     → world.AcceptsDeed g (comes_to g l deeds.drains) tenant answer
     → AcceptsHonestDeed g l r deeds.drains (parts tenant old.table old.walks)
@@ -156,9 +156,9 @@ does-drained g l r old tenant answer s does = record {
     right = s.right;
     ground = s.ground;
     tenant = does.stands;
-    serves = serves-same g l r deeds.drains old s (drains-reached g l.quiet l.store);
+    serves = serves-same g l r deeds.drains old s (drains-reached g l.state l.store);
     walked = λ a run p runs at.
-        s.walked a run p (sym (drain_outcome-runs l.quiet does.after _ a l.quiet.replies
+        s.walked a run p (sym (drain_outcome-runs l.state does.after _ a l.state.replies
         (sym (drains-by g l) ∙ does.accepted)) ∙ runs) at;
   };
 }
@@ -181,9 +181,9 @@ put-others a b mid new (Ok x) others stays apart = others b apart
 put-others a b mid new (Err e) others stays apart = stays b
 
 -- an ask that was answered
-pub does-resumed : (g : Ground) (l : Lone) (r : Refs) (a : Actor) (old new : Parts) (ask : AskData)
-    (answer : AnswerData) (run : Run) → PartsStand g old l r → running_in a l.quiet ≡ Some run
-    → world.AcceptsDeedBy g a l.quiet (comes_to g l (deeds.asks_for a ask)) new.tenant (ask_answered answer)
+pub does-resumed : (g : Ground) (l : LoneTenant) (r : Refs) (a : Actor) (old new : Parts) (ask : AskData)
+    (answer : AnswerData) (run : Run) → PartsStand g old l r → running_in a l.state ≡ Some run
+    → world.AcceptsDeedBy g a l.state (comes_to g l (deeds.asks_for a ask)) new.tenant (ask_answered answer)
     → let d = comes_to g l (deeds.asks_for a ask) in
     TableServes new.table d.store (refs_after d.store r)
     → ((p : Progress) → walk_at new.walks a ≡ Some p
@@ -191,7 +191,7 @@ pub does-resumed : (g : Ground) (l : Lone) (r : Refs) (a : Actor) (old new : Par
     → ((b : Actor) → seat_of b ≢ seat_of a → walk_at new.walks b ≡ walk_at old.walks b)
     → AcceptsHonestDeed g l r (deeds.asks_for a ask) new
 does-resumed g l r a old new ask answer run s runs does serves mine others =
-    let behind = answered-after g l.quiet l.store a ask does.after answer run does.accepted runs in
+    let behind = answered-after g l.state l.store a ask does.after answer run does.accepted runs in
     record {
       after = does.after;
       answer = ask_answered answer;
@@ -210,12 +210,12 @@ does-resumed g l r a old new ask answer run s runs does serves mine others =
     }
 
 -- a deed that is the same
-pub does-as : {X : Type 0} (g : Ground) (l : Lone) (r : Refs) (deed honest : Deed) (p : Parts)
+pub does-as : {X : Type 0} (g : Ground) (l : LoneTenant) (r : Refs) (deed honest : Deed) (p : Parts)
     (res : Result X Refusal) → deed ≡ honest → OnOk res (AcceptsHonestDeed g l r deed p)
     → OnOk res (AcceptsHonestDeed g l r honest p)
 does-as g l r deed honest p res is does = subst (λ d. OnOk res (AcceptsHonestDeed g l r d p)) is does
 
-pub refuses-as : {X : Type 0} (g : Ground) (l : Lone) (r : Refs) (deed honest : Deed) (p : Parts)
+pub refuses-as : {X : Type 0} (g : Ground) (l : LoneTenant) (r : Refs) (deed honest : Deed) (p : Parts)
     (res : Result X Refusal) → deed ≡ honest → IfErr res (RefusesHonestDeed g l r deed p)
     → IfErr res (RefusesHonestDeed g l r honest p)
 refuses-as g l r deed honest p res is told = subst (λ d. IfErr res (RefusesHonestDeed g l r d p)) is told

@@ -3,9 +3,9 @@ use Rattle.std.proofs.Common.{◌≡◌, ◌==◌, ℕ, List, Bool, true, false,
 use Rattle.std.proofs.Common.{ap, subst, ◌∙◌}
 use Rattle.server_rules.specs.Ground.{Ground}
 use Rattle.ref_table.specs.Numbered.{part_under}
-use Rattle.server_rules.specs.Request.{Hand, Run}
+use Rattle.server_rules.specs.Request.{WorkInHand, Run}
 use Rattle.ref_table.specs.Store.{Store}
-use Rattle.server_rules.specs.Tenant.{ActorData, Quiet, seat_of, is_held}
+use Rattle.server_rules.specs.Tenant.{ActorData, TenantState, seat_of, is_held}
 use Rattle.server_rules.specs.Plan as deeds
 use Rattle.server_rules.specs.Plan.{Plan, Outcome, quietly}
 use Rattle.repl_asks.specs.Job.{EndingData}
@@ -77,18 +77,18 @@ serves-all-still table old new r serves same =
     subst (TableServes table new) (sym (refs-still old new r serves.reached same))
     (serves-still table old new r serves same)
 
-pub hears-reached : (g : Ground) (q : Quiet) (s : Store) (piece : List ℕ)
+pub hears-reached : (g : Ground) (q : TenantState) (s : Store) (piece : List ℕ)
     → Reached s (deed_result g s q (deeds.hears piece)).store
 unfolding deed_result
 hears-reached g q s piece = reached-all s
 
-pub drains-reached : (g : Ground) (q : Quiet) (s : Store)
+pub drains-reached : (g : Ground) (q : TenantState) (s : Store)
     → Reached s (deed_result g s q deeds.drains).store
 unfolding deed_result
 drains-reached g q s = reached-all s
 
 -- the plans of an actor's deeds, where those of the actor leave them
-by-reached : (q : Quiet) (s : Store) (a : Actor) (p : ActorData → Plan)
+by-reached : (q : TenantState) (s : Store) (a : Actor) (p : ActorData → Plan)
     → ((actor : ActorData) → Reached s (carried_out s (p actor)).store) → (b : Bool)
     → Reached s (carried_out s (worn_by q a p b)).store
 by-reached q s a p leaves_refs true = reached-all s
@@ -97,7 +97,7 @@ by-reached q s a p leaves_refs false = there (part_under (seat_of a) q.actors) w
   there None = reached-all s
   there (Some actor) = leaves_refs actor
 
-pub starts-reached : (g : Ground) (q : Quiet) (s : Store) (a : Actor)
+pub starts-reached : (g : Ground) (q : TenantState) (s : Store) (a : Actor)
     → Reached s (deed_result g s q (deeds.starts a)).store
 starts-reached g q s a =
     let p : ActorData → Plan = λ actor. quietly (start_of g a actor q actor.hand) in
@@ -108,8 +108,8 @@ left-reached : (s : Store) (a : Actor) (outcome : Outcome)
     → Reached s (carried_out s (with_left_attempt a outcome)).store
 left-reached s a outcome = record { around = refl; tenant = refl; refs = refl }
 
-end-reached : (g : Ground) (q : Quiet) (s : Store) (a : Actor) (actor : ActorData) (e : EndingData)
-    (h : Option Hand) → Reached s (carried_out s (end_of g a actor e q h)).store
+end-reached : (g : Ground) (q : TenantState) (s : Store) (a : Actor) (actor : ActorData) (e : EndingData)
+    (h : Option WorkInHand) → Reached s (carried_out s (end_of g a actor e q h)).store
 end-reached g q s a actor e None = reached-all s
 end-reached g q s a actor e (Some h) = runs h.running where
   compared : (run : Run) (b : Bool) (place : Option ℕ)
@@ -131,7 +131,7 @@ end-reached g q s a actor e (Some h) = runs h.running where
   runs None = reached-all s
   runs (Some run) = closed run actor.is_closed
 
-pub ends-reached : (g : Ground) (q : Quiet) (s : Store) (a : Actor) (e : EndingData)
+pub ends-reached : (g : Ground) (q : TenantState) (s : Store) (a : Actor) (e : EndingData)
     → Reached s (deed_result g s q (deeds.ends a e)).store
 ends-reached g q s a e =
     let p : ActorData → Plan = λ actor. end_of g a actor e q actor.hand in

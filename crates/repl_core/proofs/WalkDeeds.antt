@@ -8,17 +8,17 @@ use Rattle.repl_walker.specs.declared.waiting.Progress.{Progress}
 use Rattle.repl_walker.specs.declared.ending.Ending.{Ending}
 use Rattle.server_rules.specs.Ground.{Ground}
 use Rattle.ref_table.specs.Numbered.{part_under}
-use Rattle.server_rules.specs.Request.{Hand, Run}
-use Rattle.server_rules.specs.Tenant.{ActorData, Quiet, seat_of}
+use Rattle.server_rules.specs.Request.{WorkInHand, Run}
+use Rattle.server_rules.specs.Tenant.{ActorData, TenantState, seat_of}
 use Rattle.server_rules.specs.Plan as deeds
 use Rattle.server_rules.specs.Honest.{honest_deed, honest_at, honest_of, honest_in, honest_by}
 use Rattle.server_rules.specs.declared.actor.Actor.{Actor}
 use Rattle.tenant_world.specs.Running.{running_of, running_in}
 use Rattle.repl_core.specs.Grounds.{Evaluates}
-use Rattle.repl_core.specs.Inside.Walked.{IsWalkOf, ending_of}
+use Rattle.repl_core.specs.Inside.Walked.{IsWalkOf, walk_ended}
 
 -- no form of the actor runs
-pub honest_deed-starts : (g : Ground) (a : Actor) (q : Quiet) → running_in a q ≡ None
+pub honest_deed-starts : (g : Ground) (a : Actor) (q : TenantState) → running_in a q ≡ None
     → deeds.starts a ≡ honest_deed g a (Some (Some q))
 honest_deed-starts g a q none = sym (by (part_under (seat_of a) q.actors) none)
   where
@@ -26,7 +26,7 @@ honest_deed-starts g a q none = sym (by (part_under (seat_of a) q.actors) none)
     of_run None e = refl
     of_run (Some run) e = absurd (cc)
 
-    in_hand : (h : Option Hand) → option_and_then (λ h. h.running) h ≡ None
+    in_hand : (h : Option WorkInHand) → option_and_then (λ h. h.running) h ≡ None
         → honest_in g a h ≡ deeds.starts a
     in_hand None e = refl
     in_hand (Some h) e = of_run h.running e
@@ -35,7 +35,7 @@ honest_deed-starts g a q none = sym (by (part_under (seat_of a) q.actors) none)
     by None e = refl
     by (Some actor) e = in_hand actor.hand e
 
-pub honest_deed-runs : (g : Ground) (a : Actor) (q : Quiet) (run : Run) → running_in a q ≡ Some run
+pub honest_deed-runs : (g : Ground) (a : Actor) (q : TenantState) (run : Run) → running_in a q ≡ Some run
     → honest_deed g a (Some (Some q)) ≡ honest_at a run (tree_after (g.evaluation run.job) run.trace)
 honest_deed-runs g a q run some = by (part_under (seat_of a) q.actors) some
   where
@@ -44,7 +44,7 @@ honest_deed-runs g a q run some = by (part_under (seat_of a) q.actors) some
     of_run None e = absurd (cc)
     of_run (Some other) e = ap (λ o. honest_of g a o) e
 
-    in_hand : (h : Option Hand) → option_and_then (λ h. h.running) h ≡ Some run
+    in_hand : (h : Option WorkInHand) → option_and_then (λ h. h.running) h ≡ Some run
         → honest_in g a h ≡ honest_at a run (tree_after (g.evaluation run.job) run.trace)
     in_hand None e = absurd (cc)
     in_hand (Some h) e = of_run h.running e
@@ -55,7 +55,7 @@ honest_deed-runs g a q run some = by (part_under (seat_of a) q.actors) some
     by (Some actor) e = in_hand actor.hand e
 
 -- the evaluation came so far
-walked-so : (g : Ground) (a : Actor) (q : Quiet) (run : Run) (p : Progress) → Evaluates g
+walked-so : (g : Ground) (a : Actor) (q : TenantState) (run : Run) (p : Progress) → Evaluates g
     → running_in a q ≡ Some run → IsWalkOf run p
     → honest_deed g a (Some (Some q)) ≡ honest_at a run (progress_tree p)
 walked-so g a q run p ground some walk =
@@ -63,14 +63,14 @@ walked-so g a q run p ground some walk =
     ∙ ap (λ t. honest_at a run (tree_after t run.trace)) (ground.evaluation run.job)
     ∙ ap (honest_at a run) (sym walk)
 
-pub honest_deed-asks : (g : Ground) (a : Actor) (q : Quiet) (run : Run) (w : Walk) → Evaluates g
+pub honest_deed-asks : (g : Ground) (a : Actor) (q : TenantState) (run : Run) (w : Walk) → Evaluates g
     → running_in a q ≡ Some run → IsWalkOf run (Progress.Asks w)
     → deeds.asks_for a (ask_view w.ask) ≡ honest_deed g a (Some (Some q))
 honest_deed-asks g a q run w ground some walk =
     sym (walked-so g a q run (Progress.Asks w) ground some walk)
 
-pub honest_deed-ends : (g : Ground) (a : Actor) (q : Quiet) (run : Run) (e : Ending) → Evaluates g
+pub honest_deed-ends : (g : Ground) (a : Actor) (q : TenantState) (run : Run) (e : Ending) → Evaluates g
     → running_in a q ≡ Some run → IsWalkOf run (Progress.Ends e)
-    → deeds.ends a (ending_of run e) ≡ honest_deed g a (Some (Some q))
+    → deeds.ends a (walk_ended run e) ≡ honest_deed g a (Some (Some q))
 honest_deed-ends g a q run e ground some walk =
     sym (walked-so g a q run (Progress.Ends e) ground some walk)

@@ -16,7 +16,7 @@ use Rattle.repl_walker.specs.declared.waiting.Progress.{Progress}
 use Rattle.repl_walker.specs.declared.ending.Ending.{Ending}
 use Rattle.server_rules.specs.Tenant.{actor_at}
 use Rattle.server_rules.specs.Request.{Run}
-use Rattle.server_rules.specs.Tenant.{Quiet, seat_of}
+use Rattle.server_rules.specs.Tenant.{TenantState, seat_of}
 use Rattle.server_rules.specs.declared.actor.Actor.{Actor}
 use Rattle.evaluation_rules.specs.Evaluation.{evaluation}
 use Rattle.tenant_parts.specs.View.{kept_trace}
@@ -34,12 +34,12 @@ pub seat-same : (a b : Actor) → seat_of a ≡ seat_of b → a ≡ b
 seat-same a b e = sym (seat-back a) ∙ ap actor_at e ∙ seat-back b
 
 -- the evaluations of every other actor are walked
-abbrev pub AreWalkedBut : Actor → (Actor → Option Progress) → Quiet → Type 0
+abbrev pub AreWalkedBut : Actor → (Actor → Option Progress) → TenantState → Type 0
 AreWalkedBut a walk q = (b : Actor) (run : Run) (p : Progress) → seat_of b ≢ seat_of a
     → running_in b q ≡ Some run → walk b ≡ Some p → IsWalkOf run p
 
 -- this actor's, and those of all others
-pub walked-all : (a : Actor) (walk : Actor → Option Progress) (q : Quiet) → AreWalkedBut a walk q
+pub walked-all : (a : Actor) (walk : Actor → Option Progress) (q : TenantState) → AreWalkedBut a walk q
     → ((run : Run) (p : Progress) → running_in a q ≡ Some run → walk a ≡ Some p → IsWalkOf run p)
     → AreWalked walk q
 walked-all a walk q others mine = λ b run p runs at. by b run p runs at (seat_of b == seat_of a) refl

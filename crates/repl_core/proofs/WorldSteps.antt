@@ -34,7 +34,7 @@ pub record Asks (g : Ground) (w : World) (s : Step) (x : Stepped) (t : ℕ) (a :
   pub deed : Deed
   pub is : s ≡ does t deed
   pub accepted : IsAccepted x
-  pub asked : AskedBy g a kept.quiet (store_in w.around t kept.mine) deed
+  pub asked : AskedBy g a kept.state (store_in w.around t kept.mine) deed
       (form_in t a (world_or w x)) (point_in t a (world_or w x))
 
 -- the form and the point are as they were, or a form begins, or the form is over, or it asked
@@ -49,9 +49,9 @@ StepMoves g w s x t a =
 
 module _ (g : Ground) (w : World) (s : Step) (x : Stepped) (t : ℕ) (a : Actor) where
   form_by : (o p : Option TenantData) → o ≡ p
-      → option_and_then (λ kept. running_in a kept.quiet) o
-      ≡ option_and_then (λ kept. running_in a kept.quiet) p
-  form_by o p e = ap (option_and_then (λ kept. running_in a kept.quiet)) e
+      → option_and_then (λ kept. running_in a kept.state) o
+      ≡ option_and_then (λ kept. running_in a kept.state) p
+  form_by o p e = ap (option_and_then (λ kept. running_in a kept.state)) e
 
   point_by : (o p : Option TenantData) → o ≡ p
       → option_and_then (λ kept. part_under (seat_of a) kept.mine.points) o
@@ -66,31 +66,31 @@ module _ (g : Ground) (w : World) (s : Step) (x : Stepped) (t : ℕ) (a : Actor)
 
   -- a tenant that was just opened
   new-open : (part : TenantData) → open_in t (world_or w x) ≡ Some part
-      → running_in a part.quiet ≡ None → part_under (seat_of a) part.mine.points ≡ None
+      → running_in a part.state ≡ None → part_under (seat_of a) part.mine.points ≡ None
       → StepMoves g w s x t a
   new-open part e none no_point =
       inr (inr (inl (form_by _ (Some part) e ∙ none, point_by _ (Some part) e ∙ no_point)))
 
   mine-open : (d : Deed) (kept part : TenantData) → s ≡ does t d → open_in t w ≡ Some kept
       → open_in t (world_or w x) ≡ Some part → IsAccepted x
-      → Moves g a kept.quiet (store_in w.around t kept.mine) d (running_in a part.quiet)
+      → Moves g a kept.state (store_in w.around t kept.mine) d (running_in a part.state)
       (part_under (seat_of a) part.mine.points)
       → StepMoves g w s x t a
   mine-open d kept part is there after good moves = by moves
     where
-      f : form_in t a (world_or w x) ≡ running_in a part.quiet
+      f : form_in t a (world_or w x) ≡ running_in a part.state
       f = form_by _ (Some part) after
 
       p : point_in t a (world_or w x) ≡ part_under (seat_of a) part.mine.points
       p = point_by _ (Some part) after
 
-      old_f : form_in t a w ≡ running_in a kept.quiet
+      old_f : form_in t a w ≡ running_in a kept.state
       old_f = form_by _ (Some kept) there
 
       old_p : point_in t a w ≡ part_under (seat_of a) kept.mine.points
       old_p = point_by _ (Some kept) there
 
-      by : Moves g a kept.quiet (store_in w.around t kept.mine) d (running_in a part.quiet)
+      by : Moves g a kept.state (store_in w.around t kept.mine) d (running_in a part.state)
           (part_under (seat_of a) part.mine.points) → StepMoves g w s x t a
       by (inl m) = inl (f ∙ m.0 ∙ sym old_f, p ∙ m.1 ∙ sym old_p)
       by (inr (inl m)) =
@@ -116,11 +116,11 @@ module _ (g : Ground) (w : World) (s : Step) (x : Stepped) (t : ℕ) (a : Actor)
 
 module _ (g : Ground) (w : World) (t : ℕ) (a : Actor) where
   ended-mine : (d : Deed) (kept : TenantData) (new : Store) (o : Outcome) → open_in t w ≡ Some kept
-      → Leaves (Moves g a kept.quiet (store_in w.around t kept.mine) d) a new o
+      → Leaves (Moves g a kept.state (store_in w.around t kept.mine) d) a new o
       → StepMoves g w (does t d) (ended_as w t new o) t a
   ended-mine d kept new (refuses why) there moves = inl (refl, refl)
   ended-mine d kept new (leaves q answer) there moves =
-      let part : TenantData = record { quiet = q; mine = new.mine } in
+      let part : TenantData = record { state = q; mine = new.mine } in
       mine-open g w (does t d) (ended_as w t new (leaves q answer)) t a d kept part refl there
       (open-mine w new.around t (Some part) kept there) tt moves
 
@@ -128,7 +128,7 @@ module _ (g : Ground) (w : World) (t : ℕ) (a : Actor) where
       → open_in u w ≡ Some kept → StepMoves g w (does u d) (ended_as w u new o) t a
   ended-other u d kept new (refuses why) apart there = inl (refl, refl)
   ended-other u d kept new (leaves q answer) apart there =
-      let part : TenantData = record { quiet = q; mine = new.mine } in
+      let part : TenantData = record { state = q; mine = new.mine } in
       same-open g w (does u d) (ended_as w u new (leaves q answer)) t a
       (open-others w new.around u t (Some part) kept there apart)
 
@@ -143,18 +143,18 @@ deed-moves g w u d t a (Some (Some kept)) is = by (cases_eq t u)
     there = ap (option_and_then (λ part. part)) is
 
     called : Performed Store
-    called = performed (store_in w.around u kept.mine) (plan g u kept.quiet d).call
+    called = performed (store_in w.around u kept.mine) (plan g u kept.state d).call
 
     by : (t ≡ u) ⊎ (t ≢ u)
         → StepMoves g w (does u d) (deed_step g w u d (Some (Some kept))) t a
     by (inl same) =
         subst (λ k. StepMoves g w (does u d) (deed_step g w u d (Some (Some kept))) k a) (sym same)
-        (ended-mine g w u a d kept called.store ((plan g u kept.quiet d).next called.told) there
-        (plan-moves g a kept.quiet (store_in w.around u kept.mine) u d))
+        (ended-mine g w u a d kept called.store ((plan g u kept.state d).next called.told) there
+        (plan-moves g a kept.state (store_in w.around u kept.mine) u d))
     by (inr apart) = ended-other g w t a u d kept called.store
-        ((plan g u kept.quiet d).next called.told) apart there
+        ((plan g u kept.state d).next called.told) apart there
 
-opened-none : (g : Ground) (a : Actor) → running_in a (opened_tenant g).quiet ≡ None
+opened-none : (g : Ground) (a : Actor) → running_in a (opened_tenant g).state ≡ None
 opened-none g a = by (seat_of a == 0) (seat_of a == 1)
   where
     by : (b c : Bool)

@@ -9,7 +9,7 @@ use Rattle.ref_table.specs.Numbered.{Entry, entry, part_under, with_part}
 use Rattle.server_rules.specs.Plan.{Deed}
 use Rattle.server_rules.specs.Deeds.{plan}
 use Rattle.ref_table.specs.Store.{Store}
-use Rattle.server_rules.specs.Tenant.{Quiet}
+use Rattle.server_rules.specs.Tenant.{TenantState}
 use Rattle.server_rules.specs.Machine.World.{TenantData, World, is_used, open_count, accepted, refused}
 use Rattle.server_rules.specs.Machine.World.{step, does, closes, deed_step, close_step, ended_as}
 use Rattle.server_rules.specs.Machine.World.{with_tenant}
@@ -114,9 +114,9 @@ found-open (Some (Some x)) y same = ap (λ it. Some it) same
 
 -- what a deed of a tenant comes to
 abbrev pub deed_of : Ground → World → ℕ → TenantData → Deed → DeedResult
-deed_of g w t kept d = deed_result g (store_in w.around t kept.mine) kept.quiet d
+deed_of g w t kept d = deed_result g (store_in w.around t kept.mine) kept.state d
 
-deed_result-by : (g : Ground) (s : Store) (q : Quiet) (d : Deed)
+deed_result-by : (g : Ground) (s : Store) (q : TenantState) (d : Deed)
     → deed_result g s q d ≡ carried_out s (plan g s.tenant q d)
 unfolding deed_result
 deed_result-by g s q d = refl
@@ -133,7 +133,7 @@ step-deed g w t d kept there =
     step-by g w t d
     ∙ ap (deed_step g w t d) (found-open (part_under t w.tenants) kept there)
     ∙ ap (λ (e : DeedResult). ended_as w t e.store e.outcome)
-    (sym (deed_result-by g (store_in w.around t kept.mine) kept.quiet d))
+    (sym (deed_result-by g (store_in w.around t kept.mine) kept.state d))
 
 pub step-none : (g : Ground) (w : World) (t : ℕ) (d : Deed) → open_in t w ≡ None
     → step g w (does t d) ≡ refused Refusal.NoSuchTenant

@@ -15,10 +15,10 @@ use Rattle.repl_core.specs.Points.{told_at}
 
 -- the form of an actor that runs
 abbrev pub form_in : ℕ → Actor → World → Option Run
-form_in t a w = option_and_then (λ kept. running_in a kept.quiet) (open_in t w)
+form_in t a w = option_and_then (λ kept. running_in a kept.state) (open_in t w)
 
-abbrev pub begun : Exchanged
-begun = record { ask = begin; answer = done }
+abbrev pub begun_attempt : Exchanged
+begun_attempt = record { ask = begin; answer = done }
 
 -- with the first an attempt begins, and with the second it ends
 abbrev pub is_within : AskData → Bool
@@ -35,7 +35,7 @@ pub record UnderWay (w : World) (t : ℕ) (a : Actor) : Type 0 where
   pub runs : form_in t a w ≡ Some form
   pub before : List Exchanged
   pub since : List Exchanged
-  pub parted : form.trace ≡ before ++ begun ∷ since
+  pub parted : form.trace ≡ before ++ begun_attempt ∷ since
   pub within : AllByRecursion (λ x. is_within x.ask ≡ true) since
 
 -- Whatever happened: an actor with a read point has an attempt under way.

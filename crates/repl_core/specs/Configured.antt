@@ -14,9 +14,9 @@ use Rattle.repl_core.specs.declared.machine.Config.{Config}
 use Rattle.repl_core.specs.declared.machine.SharedText.{SharedText}
 use Rattle.repl_core.specs.declared.machine.TheConstants.{PLACES}
 
-abbrev pub text_of : SharedText → List ℕ
-text_of SharedText.Empty = []
-text_of (SharedText.Text text) = arc_str_bytes text
+abbrev pub shared_text : SharedText → List ℕ
+shared_text SharedText.Empty = []
+shared_text (SharedText.Text text) = arc_str_bytes text
 
 -- it reads, compares and evaluates as it is to, has the numbers of the configuration, and shares
 -- what the configuration's text comes to
@@ -27,11 +27,11 @@ pub record IsConfigured (g : Ground) (config : Config) : Type 0 where
   pub steps : g.steps ≡ config.steps
   pub retries : g.retries ≡ config.retries
   pub places : g.places ≡ PLACES
-  pub shared : shared_by_text g.readings g.evaluation (text_of config.shared) ≡ Ok g.shared
+  pub shared : shared_by_text g.readings g.evaluation (shared_text config.shared) ≡ Ok g.shared
 
 -- that text has this fault, as it is to be read and evaluated: then there is no server
 abbrev pub TextFaults : Config → Failure → Type 0
 TextFaults config f =
     (r : Readings) (e : JobData → InteractionTree) → AreRight r
     → ((job : JobData) → e job ≡ evaluation job)
-    → shared_by_text r e (text_of config.shared) ≡ Err f
+    → shared_by_text r e (shared_text config.shared) ≡ Err f

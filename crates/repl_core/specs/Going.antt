@@ -18,7 +18,7 @@ use Rattle.repl_core.specs.declared.machine.Machine.{Machine}
 -- the evaluations are those of the forms of a tenant, if it is open
 abbrev pub AreWalkedIn : Walks → Option TenantData → Type 0
 AreWalkedIn walks None = ⊤
-AreWalkedIn walks (Some kept) = AreWalked (walk_at walks) kept.quiet
+AreWalkedIn walks (Some kept) = AreWalked (walk_at walks) kept.state
 
 -- a deed by which no form goes on
 abbrev pub KeepsForms : Deed → Type 0

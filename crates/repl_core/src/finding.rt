@@ -3,7 +3,7 @@ ghost use Rattle.std.specs.Prelude.{◌≡◌, ◌≢◌, Some, None, [], ◌∷
 ghost use Rattle.repl_asks.specs.Inside.View.{exchange_view};
 ghost use Rattle.repl_asks.specs.Leading.{tree_after};
 ghost use Rattle.repl_walker.specs.Waits.{progress_tree};
-ghost use Rattle.server_rules.specs.Tenant.{Quiet};
+ghost use Rattle.server_rules.specs.Tenant.{TenantState};
 ghost use Rattle.tenant_parts.specs.View.{run_view};
 ghost use Rattle.tenant_world.specs.Running.{running_in};
 ghost use Rattle.repl_core.specs.Inside.Walked.{IsWalkOf, AreWalked};
@@ -23,7 +23,7 @@ impl Walks {
         ensures kept { OnOk result (walk_at self.new actor ≢ None) }
         ensures lost { OnErr result (walk_at self.old actor ≡ None) }
         ensures stays { OnErr result ((b : Actor) → walk_at self.new b ≡ walk_at self.old b) }
-        ensures walked { (q : Quiet) → running_in actor q ≡ Some (run_view run.now)
+        ensures walked { (q : TenantState) → running_in actor q ≡ Some (run_view run.now)
             → AreWalked (walk_at self.old) q → AreWalked (walk_at self.new) q }
     {
         if self.get(actor).is_some() {

@@ -1,7 +1,7 @@
 // An actor goes on as its evaluation says.
 ghost use Rattle.std.specs.Prelude.{◌≡◌, ◌+◌, ◌<◌, Err, OnOk, OnErr, length};
 ghost use Rattle.ref_table.specs.Standing.{counter_of};
-ghost use Rattle.repl_core.specs.Inside.Seen.{is_kept};
+ghost use Rattle.repl_core.specs.Inside.Seen.{keeps_walk};
 
 use crate::deeds::has_stamps;
 use crate::machine::Machine;
@@ -19,7 +19,7 @@ impl Machine {
         ensures done { GoesOn number actor self.old walks.old self.new walks.new result }
         ensures refused { DeclinesToGo number actor self.old walks.old self.new walks.new result }
         ensures no_memory { GoingLacksMemory number actor self.old walks.old
-            (counter_of self.old.refs < u128.MAX) (is_kept walks.old walks.new actor) result }
+            (counter_of self.old.refs < u128.MAX) (keeps_walk walks.old walks.new actor) result }
         ensures unworn { counter_of self.old.refs < u128.MAX → result ≡ Err Refusal.NoMemory
             → 0 < steps_at number self.old }
         ensures steps { OnOk result (steps_at number self.old ≡ steps_at number self.new + 1) }

@@ -3,7 +3,7 @@ ghost use Rattle.std.specs.Prelude.{◌≡◌, option_and_then, option_map, IfOk
 ghost use Rattle.server_rules.specs.Ground.{Ground};
 ghost use Rattle.server_rules.specs.Machine.Ready.{ready};
 ghost use Rattle.server_rules.specs.Machine.World.{World, opened_world};
-ghost use Rattle.repl_core.specs.Configured.{IsConfigured, text_of};
+ghost use Rattle.repl_core.specs.Configured.{IsConfigured, shared_text};
 ghost use Rattle.repl_core.specs.Starting.{TellsFault};
 ghost use Rattle.repl_core.specs.Standing.{open_in};
 ghost use Rattle.repl_core.specs.TenantAt.{tenant_at};
@@ -54,7 +54,7 @@ pub struct Config {
 impl SharedText {
     /// The text once more. It takes one step, and fails only where 2^63 owners share it.
     pub fn copy(&self) -> Result<SharedText, AllocError>
-        ensures { IfOk result (λ copied. text_of copied ≡ text_of self.now) }
+        ensures { IfOk result (λ copied. shared_text copied ≡ shared_text self.now) }
     {
         match self {
             SharedText::Empty => Ok(SharedText::Empty),
@@ -63,7 +63,7 @@ impl SharedText {
     }
 
     fn as_str(&self) -> &str
-        ensures { result.now ≡ text_of self.now }
+        ensures { result.now ≡ shared_text self.now }
     {
         match self {
             SharedText::Empty => "",
@@ -145,7 +145,7 @@ impl Machine {
     /// has something to do, and takes no memory.
     pub fn ready(&self, number: u64) -> Option<Actor>
         ensures { (g : Ground) (w : World) → MachineStands g self.now w
-            → result ≡ option_and_then (λ it. ready it.quiet) (open_in number w) }
+            → result ≡ option_and_then (λ it. ready it.state) (open_in number w) }
     {
         self.tenants.get(number)?.ready()
     }

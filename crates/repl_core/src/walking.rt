@@ -9,13 +9,13 @@ ghost use Rattle.server_rules.specs.Request as rules;
 ghost use Rattle.ref_table.specs.Refs.{Refs};
 ghost use Rattle.ref_table.specs.Standing.{counter_of};
 ghost use Rattle.server_rules.specs.Grounds.{IsRight};
-ghost use Rattle.server_rules.specs.LoneTurns.{Lone};
+ghost use Rattle.server_rules.specs.LoneTurns.{LoneTenant};
 ghost use Rattle.tenant_asks.specs.Acting.{is_accepted};
 ghost use Rattle.tenant_asks.specs.Asking.{exchange_from, run_with};
 ghost use Rattle.tenant_world.specs.Running.{running_in};
 ghost use Rattle.tenant_world.specs.Standing.{CountsStep};
-ghost use Rattle.repl_core.specs.Inside.Seen.{is_kept};
-ghost use Rattle.repl_core.specs.Inside.Walked.{IsWalkOf, ending_of};
+ghost use Rattle.repl_core.specs.Inside.Seen.{keeps_walk};
+ghost use Rattle.repl_core.specs.Inside.Walked.{IsWalkOf, walk_ended};
 ghost use Rattle.repl_core.specs.Inside.WalkAt.{walk_at, IsAsking, IsEnded};
 ghost use Rattle.repl_walker.specs.declared.waiting.Walk.{Walk};
 ghost use Rattle.repl_walker.specs.declared.ending.Ending as endings;
@@ -49,7 +49,7 @@ impl Walks {
         ensures refused { DeclinesNext actor (parts tenant.old refs.old self.old)
             (parts tenant.new refs.new self.new) result }
         ensures no_memory { NextLacksMemory actor (parts tenant.old refs.old self.old)
-            (is_kept self.old self.new actor) result }
+            (keeps_walk self.old self.new actor) result }
         ensures unworn { result ≡ Err Refusal.NoMemory → 0 < tenant.old.steps }
         ensures counted { CountsStep tenant.old tenant.new result }
         ensures counter { counter_of refs.new ≤ counter_of refs.old + 1 }
@@ -76,13 +76,13 @@ impl Walks {
         refs: &RefTable<RingHistory>,
         actor: Actor,
     ) -> Result<(), Refusal>
-        ensures done { (g : Ground) (l : Lone) (r : Refs) → IsRight g
+        ensures done { (g : Ground) (l : LoneTenant) (r : Refs) → IsRight g
             → PartsStand g (parts tenant.old refs.now self.old) l r → OnOk result
             (AcceptsHonestDeed g l r (deeds.starts actor) (parts tenant.new refs.now self.new)) }
-        ensures refused { (g : Ground) (l : Lone) (r : Refs) → IsRight g
+        ensures refused { (g : Ground) (l : LoneTenant) (r : Refs) → IsRight g
             → PartsStand g (parts tenant.old refs.now self.old) l r → IfErr result
             (RefusesHonestDeed g l r (deeds.starts actor) (parts tenant.new refs.now self.new)) }
-        ensures no_memory { (g : Ground) (l : Lone) (r : Refs) → IsRight g
+        ensures no_memory { (g : Ground) (l : LoneTenant) (r : Refs) → IsRight g
             → PartsStand g (parts tenant.old refs.now self.old) l r
             → result ≡ Err Refusal.NoMemory
             → is_accepted (comes_to g l (deeds.starts actor)).outcome ≡ true }
@@ -102,18 +102,18 @@ impl Walks {
     ) -> Result<(), Refusal>
         requires asks { IsAsking (walk_at self.old actor) }
         requires counter { counter_of refs.old < u128.MAX }
-        ensures done { (g : Ground) (l : Lone) (r : Refs) (run : rules.Run) (w : Walk) → IsRight g
+        ensures done { (g : Ground) (l : LoneTenant) (r : Refs) (run : rules.Run) (w : Walk) → IsRight g
             → PartsStand g (parts tenant.old refs.old self.old) l r
-            → running_in actor l.quiet ≡ Some run
+            → running_in actor l.state ≡ Some run
             → walk_at self.old actor ≡ Some (Progress.Asks w)
             → OnOk result (AcceptsHonestDeed g l r (deeds.asks_for actor (ask_view w.ask))
             (parts tenant.new refs.new self.new)) }
-        ensures refused { (g : Ground) (l : Lone) (r : Refs) (w : Walk) → IsRight g
+        ensures refused { (g : Ground) (l : LoneTenant) (r : Refs) (w : Walk) → IsRight g
             → PartsStand g (parts tenant.old refs.old self.old) l r
             → walk_at self.old actor ≡ Some (Progress.Asks w)
             → IfErr result (RefusesHonestDeed g l r (deeds.asks_for actor (ask_view w.ask))
             (parts tenant.new refs.new self.new)) }
-        ensures no_memory { (g : Ground) (l : Lone) (r : Refs) (w : Walk)
+        ensures no_memory { (g : Ground) (l : LoneTenant) (r : Refs) (w : Walk)
             → PartsStand g (parts tenant.old refs.old self.old) l r
             → walk_at self.old actor ≡ Some (Progress.Asks w)
             → result ≡ Err Refusal.NoMemory
@@ -140,24 +140,24 @@ impl Walks {
         actor: Actor,
     ) -> Result<(), Refusal>
         requires { IsEnded (walk_at self.old actor) }
-        ensures done { (g : Ground) (l : Lone) (r : Refs) (run : rules.Run) (e : endings.Ending)
+        ensures done { (g : Ground) (l : LoneTenant) (r : Refs) (run : rules.Run) (e : endings.Ending)
             → IsRight g → PartsStand g (parts tenant.old refs.now self.old) l r
-            → running_in actor l.quiet ≡ Some run
+            → running_in actor l.state ≡ Some run
             → walk_at self.old actor ≡ Some (Progress.Ends e) → OnOk result
-            (AcceptsHonestDeed g l r (deeds.ends actor (ending_of run e))
+            (AcceptsHonestDeed g l r (deeds.ends actor (walk_ended run e))
             (parts tenant.new refs.now self.new)) }
-        ensures refused { (g : Ground) (l : Lone) (r : Refs) (run : rules.Run) (e : endings.Ending)
+        ensures refused { (g : Ground) (l : LoneTenant) (r : Refs) (run : rules.Run) (e : endings.Ending)
             → IsRight g → PartsStand g (parts tenant.old refs.now self.old) l r
-            → running_in actor l.quiet ≡ Some run
+            → running_in actor l.state ≡ Some run
             → walk_at self.old actor ≡ Some (Progress.Ends e) → IfErr result
-            (RefusesHonestDeed g l r (deeds.ends actor (ending_of run e))
+            (RefusesHonestDeed g l r (deeds.ends actor (walk_ended run e))
             (parts tenant.new refs.now self.new)) }
-        ensures no_memory { (g : Ground) (l : Lone) (r : Refs) (run : rules.Run)
+        ensures no_memory { (g : Ground) (l : LoneTenant) (r : Refs) (run : rules.Run)
             (e : endings.Ending) → IsRight g → PartsStand g (parts tenant.old refs.now self.old) l r
-            → running_in actor l.quiet ≡ Some run
+            → running_in actor l.state ≡ Some run
             → walk_at self.old actor ≡ Some (Progress.Ends e)
             → result ≡ Err Refusal.NoMemory
-            → is_accepted (comes_to g l (deeds.ends actor (ending_of run e))).outcome ≡ true }
+            → is_accepted (comes_to g l (deeds.ends actor (walk_ended run e))).outcome ≡ true }
         ensures counted { CountsStep tenant.old tenant.new result }
     {
         let Some(Progress::Ends(ending)) = self.get(actor) else {

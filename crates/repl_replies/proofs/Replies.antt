@@ -5,7 +5,7 @@ use Rattle.std.specs.declared.alloc.AllocError.{AllocError}
 use Rattle.bencode_wire.specs.Tree.{Tree, string, list, dictionary, Pairs, no_pairs, pair}
 use Rattle.bencode_wire.specs.Spelling.{canonical, string_text, pairs_text, put_pairs}
 use Rattle.bencode_wire.proofs.Views.{each_sorted}
-use Rattle.repl_replies.specs.Description.{ops, versions}
+use Rattle.repl_replies.specs.Description.{ops, server_versions}
 use Rattle.repl_replies.specs.OperationNames.{operations}
 use Rattle.repl_replies.specs.Inside.Building.{behind}
 use Rattle.repl_replies.specs.Replies.{OriginData, BodyData, value, output, exception, error_text}
@@ -40,7 +40,7 @@ in_order o (sessions ids) =
     with_field (codes "id") o.id (with_field (codes "session") o.session (pair (codes "sessions") (list (strings ids)) (with_status (sessions ids))))
 in_order o described =
     pair (codes "aux") (dictionary no_pairs) (with_field (codes "id") o.id (pair (codes "ops") (dictionary (ops operations))
-    (with_field (codes "session") o.session (with_field (codes "status") (status_value (status described)) (pair (codes "versions") versions no_pairs)))))
+    (with_field (codes "session") o.session (with_field (codes "status") (status_value (status described)) (pair (codes "server_versions") server_versions no_pairs)))))
 in_order o done = plain o done
 in_order o unknown_session = plain o unknown_session
 in_order o no_code = plain o no_code

@@ -16,11 +16,11 @@ server_version =
     (pair (codes "major") (integer (pos 1))
     (pair (codes "minor") (integer (pos 0)) no_pairs))
 
-abbrev pub versions : Tree
-versions = dictionary (pair (codes "server") server_version no_pairs)
+abbrev pub server_versions : Tree
+server_versions = dictionary (pair (codes "server") server_version no_pairs)
 
 abbrev pub description : Pairs
 description =
     pair (codes "aux") (dictionary no_pairs)
     (pair (codes "ops") (dictionary (ops operations))
-    (pair (codes "versions") versions no_pairs))
+    (pair (codes "server_versions") server_versions no_pairs))

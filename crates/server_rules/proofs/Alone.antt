@@ -8,14 +8,14 @@ use Rattle.std.proofs.lemmas.Bool.{leb-false, or_left, or_right, MatchBool-at_tr
 use Rattle.std.proofs.lemmas.Bool.{MatchBool-at_false}
 use Rattle.ref_table.specs.Numbered.{Entry, entry, part_under}
 use Rattle.server_rules.specs.Ground.{Ground}
-use Rattle.server_rules.specs.Tenant.{Quiet}
+use Rattle.server_rules.specs.Tenant.{TenantState}
 use Rattle.server_rules.specs.Plan.{Deed, tenant_opened, tenant_gone, Outcome, refuses}
 use Rattle.server_rules.specs.Plan.{leaves}
 use Rattle.server_rules.specs.Machine.World.{TenantData, World, Step, opens, does, closes, Stepped}
 use Rattle.server_rules.specs.Machine.World.{accepted, refused, is_used, open_count, opened_tenant}
 use Rattle.server_rules.specs.Machine.World.{deed_step, close_step, step, world_or, run}
 use Rattle.server_rules.specs.Honest.{honest_deed}
-use Rattle.server_rules.specs.Machine.Turns.{whose_step, Turn, given, goes, whose, quiet_of}
+use Rattle.server_rules.specs.Machine.Turns.{whose_step, Turn, given, goes, whose, tenant_state_of}
 use Rattle.server_rules.specs.Machine.Turns.{step_of, turn_step, world_after, bytes_given, serve}
 use Rattle.server_rules.specs.Plan.{bytes_in}
 use Rattle.server_rules.specs.Machine.Turns.{turns_of_tenant}
@@ -191,12 +191,12 @@ turns_of_tenant-other t turn turns e = ap (λ b. if b then turn ∷ turns_of_ten
 
 -- the steps are the same where the views are
 
-view_quiet : Option View → Option Quiet
-view_quiet = option_map (λ v. v.quiet)
+view_state : Option View → Option TenantState
+view_state = option_map (λ v. v.state)
 
 quiet-seen : (part : Option (Option TenantData))
-    → option_map quiet_of part ≡ option_map view_quiet (option_map part_view part)
-unfolding view_quiet
+    → option_map tenant_state_of part ≡ option_map view_state (option_map part_view part)
+unfolding view_state
 quiet-seen None = refl
 quiet-seen (Some None) = refl
 quiet-seen (Some (Some tenant)) = refl
@@ -208,7 +208,7 @@ same-step g t w x (given s) mine e = refl
 same-step g t w x (goes u a) mine e =
     let same : view_for u w ≡ view_for u x = subst (λ n. view_for n w ≡ view_for n x) mine e in
     ap (λ q. does u (honest_deed g a q))
-    (quiet-seen (part_under u w.tenants) ∙ ap (option_map view_quiet) same
+    (quiet-seen (part_under u w.tenants) ∙ ap (option_map view_state) same
     ∙ sym (quiet-seen (part_under u x.tenants)))
 
 opened-alone
@@ -265,7 +265,7 @@ absent-turn g w (given (opens u)) closed e = absurd (closed tt)
 absent-turn g w (given (does u d)) closed e = ap (deed_step g w u d) e
 absent-turn g w (given (closes u)) closed e = ap (close_step w u) e
 absent-turn g w (goes u a) closed e =
-    ap (deed_step g w u (honest_deed g a (option_map quiet_of (part_under u w.tenants)))) e
+    ap (deed_step g w u (honest_deed g a (option_map tenant_state_of (part_under u w.tenants)))) e
 
 open-or-not : (turn : Turn) → IsOpen turn ⊎ (IsOpen turn → ⊥)
 open-or-not (given (opens u)) = inl tt

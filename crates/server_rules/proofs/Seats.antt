@@ -17,8 +17,8 @@ use Rattle.ref_table.specs.Numbered.{Entry, entry, part_under, with_part}
 use Rattle.ref_table.specs.Store.{Store}
 use Rattle.ref_table.specs.Calls.{performed}
 use Rattle.server_rules.specs.Ground.{Ground}
-use Rattle.server_rules.specs.Request.{Waiting, ProgramText, code, file, Hand, Run}
-use Rattle.server_rules.specs.Tenant.{ActorData, unoccupied, seat_of, Quiet, is_held, with_actor}
+use Rattle.server_rules.specs.Request.{Waiting, ProgramText, code, file, WorkInHand, Run}
+use Rattle.server_rules.specs.Tenant.{ActorData, unoccupied, seat_of, TenantState, is_held, with_actor}
 use Rattle.server_rules.specs.Tenant.{actor_state, with_state}
 use Rattle.server_rules.specs.Moves.{Move, form_ended}
 use Rattle.server_rules.specs.Operating.{named_sessions, with_clone, with_vacated_seat, closed_by}
@@ -31,7 +31,7 @@ use Rattle.server_rules.specs.Starting.{held_or, next_begun, text_begun, first_s
 use Rattle.server_rules.specs.Starting.{start_in_hand, start_waiting, action_begun, action_for}
 use Rattle.server_rules.specs.Starting.{with_action_begun, start_action}
 use Rattle.server_rules.specs.Cells.{NextAction, must_wait}
-use Rattle.server_rules.specs.Asking.{may_ask, is_allowed, session_of, answer_outcome, when_told}
+use Rattle.server_rules.specs.Asking.{may_ask, is_allowed, session_number, answer_outcome, when_told}
 use Rattle.server_rules.specs.Asking.{asked_allowed, asked_running, asked_of}
 use Rattle.server_rules.specs.Ending.{with_cells_ended, end_compared, end_running, end_of}
 use Rattle.server_rules.specs.Deeds.{start_of, for_actor, unless_worn, drain_outcome, plan}
@@ -47,13 +47,13 @@ use Rattle.server_rules.proofs.Rising.{Rising, rising-behind, rising-with, risin
 use Rattle.server_rules.proofs.Steps.{room, store_of}
 
 -- the seats rise, and the next session's is above them all
-abbrev pub IsSeated : Quiet → Type 0
+abbrev pub IsSeated : TenantState → Type 0
 IsSeated q = Rising 0 (suc (suc q.sessions.opened)) q.actors
 
 -- Hearing
 
 clone-seated
-    : (g : Ground) (t : ℕ) (origin : OriginData) (original : Option ℕ) (q : Quiet) → IsSeated q
+    : (g : Ground) (t : ℕ) (origin : OriginData) (original : Option ℕ) (q : TenantState) → IsSeated q
     → IsSeated (with_clone g t origin original q)
 clone-seated g t origin original q h =
     let seat = suc (suc q.sessions.opened) in
@@ -61,37 +61,37 @@ clone-seated g t origin original q h =
     subst (λ high. Rising 0 high (q.actors ++ entry seat unoccupied ∷ [])) next
     (rising-behind 0 seat unoccupied q.actors h)
 
-vacated-rising : (seat high : ℕ) (h : Option Hand) (es : List (Entry ActorData))
+vacated-rising : (seat high : ℕ) (h : Option WorkInHand) (es : List (Entry ActorData))
     → Rising 0 high es → Rising 0 high (with_vacated_seat seat h es)
 vacated-rising seat high None es r = rising-without seat 0 high es r
 vacated-rising seat high (Some h) es r =
     rising-with seat 0 high (record { waiting = []; hand = Some h; is_closed = true }) es r
 
-closed-seated : (origin : OriginData) (n : ℕ) (q : Quiet) (actor : Option ActorData) → IsSeated q
+closed-seated : (origin : OriginData) (n : ℕ) (q : TenantState) (actor : Option ActorData) → IsSeated q
     → IsSeated (closed_by origin n q actor)
 closed-seated origin n q None h = h
 closed-seated origin n q (Some actor) h =
     vacated-rising (suc (suc n)) (suc (suc q.sessions.opened)) actor.hand q.actors h
 
-with_actor-seated : (a : Actor) (actor : ActorData) (q : Quiet) → IsSeated q
+with_actor-seated : (a : Actor) (actor : ActorData) (q : TenantState) → IsSeated q
     → IsSeated (with_actor a actor q)
 with_actor-seated a actor q h =
     rising-with (seat_of a) 0 (suc (suc q.sessions.opened)) actor q.actors h
 
-queued-seated : (a : Actor) (w : Waiting) (q : Quiet) (actor : Option ActorData) → IsSeated q
+queued-seated : (a : Actor) (w : Waiting) (q : TenantState) (actor : Option ActorData) → IsSeated q
     → IsSeated (queued_for a w q actor)
 queued-seated a w q None h = h
 queued-seated a w q (Some actor) h =
     with_actor-seated a (record actor { waiting = actor.waiting ++ w ∷ [] }) q h
 
-with_queued-seated : (a : Actor) (origin : OriginData) (text : ProgramText) (q : Quiet)
+with_queued-seated : (a : Actor) (origin : OriginData) (text : ProgramText) (q : TenantState)
     → IsSeated q → IsSeated (with_queued a origin text q)
 with_queued-seated a origin text q h =
     queued-seated a (record { origin = origin; text = text }) q
     (part_under (seat_of a) q.actors) h
 
 operation-seated
-    : (g : Ground) (t : ℕ) (origin : OriginData) (operation : OperationData) (q : Quiet)
+    : (g : Ground) (t : ℕ) (origin : OriginData) (operation : OperationData) (q : TenantState)
     → IsSeated q → IsSeated (after_operation g t origin operation q)
 operation-seated g t origin (operations.clone original) q h = clone-seated g t origin original q h
 operation-seated g t origin (operations.close n) q h =
@@ -103,12 +103,12 @@ operation-seated g t origin (operations.eval session text ns) q h =
 operation-seated g t origin (operations.load_file session text) q h =
     with_queued-seated (asker session) origin (file text) q h
 
-asked-seated : (g : Ground) (t : ℕ) (asked : Result AskedData ReplyData) (q : Quiet) → IsSeated q
+asked-seated : (g : Ground) (t : ℕ) (asked : Result AskedData ReplyData) (q : TenantState) → IsSeated q
     → IsSeated (with_asked g t asked q)
 asked-seated g t (Ok asked) q h = operation-seated g t asked.origin asked.operation q h
 asked-seated g t (Err refusal) q h = h
 
-message-seated : (g : Ground) (t : ℕ) (m : wire.Tree) (q : Quiet) → IsSeated q
+message-seated : (g : Ground) (t : ℕ) (m : wire.Tree) (q : TenantState) → IsSeated q
     → IsSeated (with_message g t m q)
 unfolding with_message
 message-seated g t (wire.dictionary fields) q h =
@@ -117,13 +117,13 @@ message-seated g t (wire.integer n) q h = h
 message-seated g t (wire.string text) q h = h
 message-seated g t (wire.list members) q h = h
 
-messages-seated : (g : Ground) (t : ℕ) (ms : List wire.Tree) (q : Quiet) → IsSeated q
+messages-seated : (g : Ground) (t : ℕ) (ms : List wire.Tree) (q : TenantState) → IsSeated q
     → IsSeated (with_messages g t ms q)
 messages-seated g t [] q h = h
 messages-seated g t (m ∷ ms) q h =
     messages-seated g t ms (with_message g t m q) (message-seated g t m q h)
 
-taken_in-seated : (g : Ground) (t : ℕ) (piece : List ℕ) (q : Quiet) → IsSeated q
+taken_in-seated : (g : Ground) (t : ℕ) (piece : List ℕ) (q : TenantState) → IsSeated q
     → IsSeated (taken_in g t piece q)
 unfolding taken_in
 taken_in-seated g t piece q h =
@@ -150,7 +150,7 @@ either_plan true x y h k = h
 either_plan false x y h k = k
 
 hears_more-seated
-    : (g : Ground) (t : ℕ) (piece : List ℕ) (q : Quiet) (fault : Option WireFault) → IsSeated q
+    : (g : Ground) (t : ℕ) (piece : List ℕ) (q : TenantState) (fault : Option WireFault) → IsSeated q
     → SeatedOutcome (hears_more g t piece q fault)
 hears_more-seated g t piece q (Some f) h = tt
 hears_more-seated g t piece q None h =
@@ -158,33 +158,33 @@ hears_more-seated g t piece q None h =
 
 -- Starting
 
-state-seated : (a : Actor) (state : StateData) (q : Quiet) → IsSeated q
+state-seated : (a : Actor) (state : StateData) (q : TenantState) → IsSeated q
     → IsSeated (with_state a state q)
 state-seated Actor.Agents state q h = h
 state-seated Actor.Bare state q h = h
 state-seated (Actor.Session n) state q h = h
 
-move-seated : (a : Actor) (actor : ActorData) (m : Move) (q : Quiet) → IsSeated q
+move-seated : (a : Actor) (actor : ActorData) (m : Move) (q : TenantState) → IsSeated q
     → IsSeated (after_move a actor m q)
 move-seated a actor m q h =
     let more : ActorData = record actor { hand = m.hand } in
     state-seated a m.state (with_actor a more q) (with_actor-seated a more q h)
 
-start-seated : (a : Actor) (actor : ActorData) (s : Started) (q : Quiet) → IsSeated q
+start-seated : (a : Actor) (actor : ActorData) (s : Started) (q : TenantState) → IsSeated q
     → SeatedOutcome (start_outcome a actor s q)
 start-seated a actor s q h = move-seated a actor s.move q h
 
-interrupted-seated : (a : Actor) (hand : Hand) (q : Quiet) → IsSeated q
+interrupted-seated : (a : Actor) (hand : WorkInHand) (q : TenantState) → IsSeated q
     → SeatedOutcome (interrupted_in a hand q)
 interrupted-seated a hand q h =
     rising-without (seat_of a) 0 (suc (suc q.sessions.opened)) q.actors h
 
-held_or-seated : (q : Quiet) (outcome : Outcome) → SeatedOutcome outcome
+held_or-seated : (q : TenantState) (outcome : Outcome) → SeatedOutcome outcome
     → SeatedOutcome (held_or q outcome)
 held_or-seated q outcome h = either (is_held q) (refuses Refusal.Held) outcome tt h
 
 in_hand-seated
-    : (g : Ground) (a : Actor) (actor : ActorData) (hand : Hand) (q : Quiet) (runs : Bool)
+    : (g : Ground) (a : Actor) (actor : ActorData) (hand : WorkInHand) (q : TenantState) (runs : Bool)
     → IsSeated q → SeatedOutcome (start_in_hand g a actor hand q runs)
 in_hand-seated g a actor hand q true h = tt
 in_hand-seated g a actor hand q false h =
@@ -194,16 +194,16 @@ in_hand-seated g a actor hand q false h =
     (interrupted-seated a hand q h) (held_or-seated q outcome (start-seated a actor begun q h))
 
 action-seated
-    : (g : Ground) (a : Actor) (actor : ActorData) (q : Quiet) (next : Option NextAction)
+    : (g : Ground) (a : Actor) (actor : ActorData) (q : TenantState) (next : Option NextAction)
     → IsSeated q → SeatedOutcome (start_action g a actor q next)
 action-seated g a actor q None h = tt
 action-seated g a actor q (Some next) h =
-    let after : Quiet = with_action_begun q in
+    let after : TenantState = with_action_begun q in
     let begun : Started = action_begun g next in
     held_or-seated q (start_outcome a actor begun after) (start-seated a actor begun after h)
 
 waiting-seated
-    : (g : Ground) (a : Actor) (actor : ActorData) (q : Quiet) (ws : List Waiting) → IsSeated q
+    : (g : Ground) (a : Actor) (actor : ActorData) (q : TenantState) (ws : List Waiting) → IsSeated q
     → SeatedOutcome (start_waiting g a actor q ws)
 waiting-seated g a actor q [] h = action-seated g a actor q (action_for a q.cells.agents) h
 waiting-seated g a actor q (w ∷ ws) h =
@@ -212,7 +212,7 @@ waiting-seated g a actor q (w ∷ ws) h =
     held_or-seated q (start_outcome a left begun q) (start-seated a left begun q h)
 
 start_of-seated
-    : (g : Ground) (a : Actor) (actor : ActorData) (q : Quiet) (hand : Option Hand) → IsSeated q
+    : (g : Ground) (a : Actor) (actor : ActorData) (q : TenantState) (hand : Option WorkInHand) → IsSeated q
     → SeatedOutcome (start_of g a actor q hand)
 start_of-seated g a actor q None h = waiting-seated g a actor q actor.waiting h
 start_of-seated g a actor q (Some hand) h =
@@ -227,16 +227,16 @@ told-seated None next h = tt
 told-seated (Some answer) next h = h answer
 
 answer-seated
-    : (g : Ground) (a : Actor) (actor : ActorData) (hand : Hand) (run : Run) (ask : AskData)
-    (q : Quiet) (told : AnswerData) → IsSeated q
+    : (g : Ground) (a : Actor) (actor : ActorData) (hand : WorkInHand) (run : Run) (ask : AskData)
+    (q : TenantState) (told : AnswerData) → IsSeated q
     → SeatedOutcome (answer_outcome g a actor hand run ask q told)
 answer-seated g a actor hand run ask q told h =
-    either (must_wait (session_of a) ask q.cells) (refuses Refusal.Waiting) _ tt
+    either (must_wait (session_number a) ask q.cells) (refuses Refusal.Waiting) _ tt
     (rising-with (seat_of a) 0 (suc (suc q.sessions.opened)) _ q.actors h)
 
 allowed-seated
-    : (g : Ground) (a : Actor) (actor : ActorData) (hand : Hand) (run : Run) (ask : AskData)
-    (q : Quiet) → IsSeated q → SeatedPlan (asked_allowed g a actor hand run ask q)
+    : (g : Ground) (a : Actor) (actor : ActorData) (hand : WorkInHand) (run : Run) (ask : AskData)
+    (q : TenantState) → IsSeated q → SeatedPlan (asked_allowed g a actor hand run ask q)
 allowed-seated g a actor hand run ask q h =
     either_plan actor.is_closed _ _
     (λ told. told-seated told _ (λ answer. interrupted-seated a hand q h))
@@ -244,7 +244,7 @@ allowed-seated g a actor hand run ask q h =
     (λ answer. answer-seated g a actor hand run ask q answer h))
 
 running-seated
-    : (g : Ground) (a : Actor) (actor : ActorData) (hand : Hand) (ask : AskData) (q : Quiet)
+    : (g : Ground) (a : Actor) (actor : ActorData) (hand : WorkInHand) (ask : AskData) (q : TenantState)
     (run : Option Run) → IsSeated q → SeatedPlan (asked_running g a actor hand ask q run)
 running-seated g a actor hand ask q None h = λ told. tt
 running-seated g a actor hand ask q (Some run) h =
@@ -252,7 +252,7 @@ running-seated g a actor hand ask q (Some run) h =
     (quietly (refuses Refusal.Idle)) (allowed-seated g a actor hand run ask q h) (λ told. tt)
 
 asked_of-seated
-    : (g : Ground) (a : Actor) (actor : ActorData) (ask : AskData) (q : Quiet) (hand : Option Hand)
+    : (g : Ground) (a : Actor) (actor : ActorData) (ask : AskData) (q : TenantState) (hand : Option WorkInHand)
     → IsSeated q → SeatedPlan (asked_of g a actor ask q hand)
 asked_of-seated g a actor ask q None h = λ told. tt
 asked_of-seated g a actor ask q (Some hand) h =
@@ -261,7 +261,7 @@ asked_of-seated g a actor ask q (Some hand) h =
 -- Ending
 
 compared-seated
-    : (a : Actor) (actor : ActorData) (hand : Hand) (run : Run) (e : EndingData) (q : Quiet)
+    : (a : Actor) (actor : ActorData) (hand : WorkInHand) (run : Run) (e : EndingData) (q : TenantState)
     (same : Bool) (difference : Option ℕ) → IsSeated q
     → SeatedPlan (end_compared a actor hand run e q same difference)
 compared-seated a actor hand run e q false difference h = λ told. tt
@@ -270,7 +270,7 @@ compared-seated a actor hand run e q true None h = λ told.
     move-seated a actor (form_ended hand e.end (actor_state a q)) (with_cells_ended a hand run e q) h
 
 end-seated
-    : (g : Ground) (a : Actor) (actor : ActorData) (hand : Hand) (e : EndingData) (q : Quiet)
+    : (g : Ground) (a : Actor) (actor : ActorData) (hand : WorkInHand) (e : EndingData) (q : TenantState)
     (run : Option Run) → IsSeated q → SeatedPlan (end_running g a actor hand e q run)
 end-seated g a actor hand e q None h = λ told. tt
 end-seated g a actor hand e q (Some run) h =
@@ -280,14 +280,14 @@ end-seated g a actor hand e q (Some run) h =
     (g.comparisons.difference e.trace run.trace) h))
 
 end_of-seated
-    : (g : Ground) (a : Actor) (actor : ActorData) (e : EndingData) (q : Quiet)
-    (hand : Option Hand) → IsSeated q → SeatedPlan (end_of g a actor e q hand)
+    : (g : Ground) (a : Actor) (actor : ActorData) (e : EndingData) (q : TenantState)
+    (hand : Option WorkInHand) → IsSeated q → SeatedPlan (end_of g a actor e q hand)
 end_of-seated g a actor e q None h = λ told. tt
 end_of-seated g a actor e q (Some hand) h = end-seated g a actor hand e q hand.running h
 
 -- Each deed
 
-worn-seated : (q : Quiet) (p : Plan) → SeatedPlan p → SeatedPlan (unless_worn q p)
+worn-seated : (q : TenantState) (p : Plan) → SeatedPlan p → SeatedPlan (unless_worn q p)
 worn-seated q p h =
     either_plan (q.steps == 0) (quietly (refuses Refusal.Worn)) p (λ told. tt) h
 
@@ -296,12 +296,12 @@ actor-seated : (actor : Option ActorData) (p : ActorData → Plan)
 actor-seated None p h = λ told. tt
 actor-seated (Some actor) p h = h actor
 
-drained-seated : (q : Quiet) (replies : List ReplyData) → IsSeated q
+drained-seated : (q : TenantState) (replies : List ReplyData) → IsSeated q
     → SeatedOutcome (drain_outcome q replies)
 drained-seated q [] h = tt
 drained-seated q (oldest ∷ more) h = h
 
-plan-seated : (g : Ground) (t : ℕ) (q : Quiet) (d : Deed) → IsSeated q
+plan-seated : (g : Ground) (t : ℕ) (q : TenantState) (d : Deed) → IsSeated q
     → SeatedPlan (plan g t q d)
 plan-seated g t q (hears piece) h = λ told.
     either (q.steps == 0) (refuses Refusal.Worn) _ tt
@@ -322,7 +322,7 @@ plan-seated g t q drains h = λ told. drained-seated q q.replies h
 abbrev pub SeatedPart : Option (Option TenantData) → Type 0
 SeatedPart None = ⊤
 SeatedPart (Some None) = ⊤
-SeatedPart (Some (Some tenant)) = IsSeated tenant.quiet
+SeatedPart (Some (Some tenant)) = IsSeated tenant.state
 
 abbrev pub SeatedWorld : World → Type 0
 SeatedWorld w = (t : ℕ) → SeatedPart (part_under t w.tenants)
@@ -343,7 +343,7 @@ ended-seated
     → SeatedWorld (world_or w (ended_as w t s o))
 ended-seated w t old here seated s (refuses why) h = seated
 ended-seated w t old here seated s (leaves q answer) h = λ n.
-    part-seated n t (Some (record { quiet = q; mine = s.mine })) old w.tenants here h (seated n)
+    part-seated n t (Some (record { state = q; mine = s.mine })) old w.tenants here h (seated n)
 
 deed-seated
     : (g : Ground) (w : World) (t : ℕ) (d : Deed) (part : Option (Option TenantData))
@@ -352,10 +352,10 @@ deed-seated
 deed-seated g w t d None seated mine here = seated
 deed-seated g w t d (Some None) seated mine here = seated
 deed-seated g w t d (Some (Some tenant)) seated mine here =
-    let p : Plan = plan g t tenant.quiet d in
+    let p : Plan = plan g t tenant.state d in
     let called = performed (store_of w t tenant) p.call in
     ended-seated w t (Some tenant) here seated called.store (p.next called.told)
-    (plan-seated g t tenant.quiet d mine called.told)
+    (plan-seated g t tenant.state d mine called.told)
 
 close-seated
     : (w : World) (t : ℕ) (part : Option (Option TenantData)) → SeatedWorld w

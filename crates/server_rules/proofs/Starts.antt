@@ -9,8 +9,8 @@ use Rattle.ref_table.specs.Numbered.{Entry, part_under}
 use Rattle.ref_table.specs.Store.{Store}
 use Rattle.ref_table.specs.Calls.{performed}
 use Rattle.server_rules.specs.Ground.{Ground}
-use Rattle.server_rules.specs.Request.{Waiting, Hand}
-use Rattle.server_rules.specs.Tenant.{ActorData, actor_at, seat_of, Quiet, is_held}
+use Rattle.server_rules.specs.Request.{Waiting, WorkInHand}
+use Rattle.server_rules.specs.Tenant.{ActorData, actor_at, seat_of, TenantState, is_held}
 use Rattle.server_rules.specs.Starting.{interrupted_in, held_or, start_in_hand, start_waiting}
 use Rattle.server_rules.specs.Deeds.{start_of, for_actor, unless_worn, plan}
 use Rattle.server_rules.specs.Plan.{starts, Outcome, refuses, leaves, Plan, quietly}
@@ -24,29 +24,29 @@ use Rattle.server_rules.proofs.Rising.{found}
 use Rattle.server_rules.proofs.Seats.{IsSeated, SeatedPart, SeatedWorld}
 use Rattle.server_rules.proofs.Steps.{store_of}
 
-abbrev Begins : Quiet → Outcome → Type 0
+abbrev Begins : TenantState → Outcome → Type 0
 Begins q (refuses why) = MayRefuseWork q why
 Begins q (leaves after answer) = ⊤
 
-abbrev BeginsBy : Quiet → Plan → Type 0
+abbrev BeginsBy : TenantState → Plan → Type 0
 BeginsBy q p = (told : Option AnswerData) → Begins q (p.next told)
 
 -- An actor that may begin
 
-held-begins : (q : Quiet) (outcome : Outcome) → Begins q outcome → Begins q (held_or q outcome)
+held-begins : (q : TenantState) (outcome : Outcome) → Begins q outcome → Begins q (held_or q outcome)
 held-begins q outcome h = by (is_held q) refl where
   by : (b : Bool) → is_held q ≡ b → Begins q (if b then refuses Refusal.Held else outcome)
   by true e = e
   by false e = h
 
 waiting-begins
-    : (g : Ground) (a : Actor) (actor : ActorData) (q : Quiet) (ws : List Waiting)
+    : (g : Ground) (a : Actor) (actor : ActorData) (q : TenantState) (ws : List Waiting)
     → has_waiting ws ≡ true → Begins q (start_waiting g a actor q ws)
 waiting-begins g a actor q [] e = absurd (false≢true e)
 waiting-begins g a actor q (w ∷ ws) e = held-begins q _ tt
 
 in_hand-begins
-    : (g : Ground) (a : Actor) (actor : ActorData) (h : Hand) (q : Quiet) (runs : Bool)
+    : (g : Ground) (a : Actor) (actor : ActorData) (h : WorkInHand) (q : TenantState) (runs : Bool)
     → not runs ≡ true → Begins q (start_in_hand g a actor h q runs)
 in_hand-begins g a actor h q true e = absurd (false≢true e)
 in_hand-begins g a actor h q false e = by actor.is_closed _ (held-begins q _ tt) where
@@ -56,12 +56,12 @@ in_hand-begins g a actor h q false e = by actor.is_closed _ (held-begins q _ tt)
   by false outcome begins = begins
 
 start_of-begins
-    : (g : Ground) (a : Actor) (actor : ActorData) (q : Quiet) (h : Option Hand)
+    : (g : Ground) (a : Actor) (actor : ActorData) (q : TenantState) (h : Option WorkInHand)
     → may_begin actor.waiting h ≡ true → Begins q (start_of g a actor q h)
 start_of-begins g a actor q None e = waiting-begins g a actor q actor.waiting e
 start_of-begins g a actor q (Some h) e = in_hand-begins g a actor h q (is_some h.running) e
 
-worn-begins : (q : Quiet) (p : Plan) → BeginsBy q p → BeginsBy q (unless_worn q p)
+worn-begins : (q : TenantState) (p : Plan) → BeginsBy q p → BeginsBy q (unless_worn q p)
 worn-begins q p h = by (q.steps == 0) refl where
   by : (b : Bool) → (q.steps == 0) ≡ b
       → BeginsBy q (if b then quietly (refuses Refusal.Worn) else p)
@@ -69,7 +69,7 @@ worn-begins q p h = by (q.steps == 0) refl where
   by false e = h
 
 plan-begins
-    : (g : Ground) (t : ℕ) (q : Quiet) (a : Actor) (actor : ActorData)
+    : (g : Ground) (t : ℕ) (q : TenantState) (a : Actor) (actor : ActorData)
     → part_under (seat_of a) q.actors ≡ Some actor → may_begin actor.waiting actor.hand ≡ true
     → BeginsBy q (plan g t q (starts a))
 plan-begins g t q a actor here e =
@@ -96,7 +96,7 @@ named-by None a e = absurd (none-some e)
 named-by (Some named) a e =
     record { named = named; there = refl; same = some-same (actor_at named.number) a e }
 
-ready-begins : (g : Ground) (t : ℕ) (q : Quiet) (a : Actor) → IsSeated q → ready q ≡ Some a
+ready-begins : (g : Ground) (t : ℕ) (q : TenantState) (a : Actor) → IsSeated q → ready q ≡ Some a
     → BeginsBy q (plan g t q (starts a))
 ready-begins g t q a seated e =
     let first = named-by (find has_work q.actors) a e in
@@ -108,20 +108,20 @@ ready-begins g t q a seated e =
 
 -- Its start on the whole server
 
-ended-found : (w : World) (t : ℕ) (q : Quiet) (s : Store) (o : Outcome) → Begins q o
+ended-found : (w : World) (t : ℕ) (q : TenantState) (s : Store) (o : Outcome) → Begins q o
     → FoundWork q (ended_as w t s o)
 ended-found w t q s (refuses why) h = h
 ended-found w t q s (leaves after answer) h = tt
 
 pub start-found
     : (g : Ground) (w : World) (t : ℕ) (tenant : TenantData) (a : Actor) → SeatedWorld w
-    → part_under t w.tenants ≡ Some (Some tenant) → ready tenant.quiet ≡ Some a
-    → FoundWork tenant.quiet (step g w (does t (starts a)))
+    → part_under t w.tenants ≡ Some (Some tenant) → ready tenant.state ≡ Some a
+    → FoundWork tenant.state (step g w (does t (starts a)))
 unfolding step
 start-found g w t tenant a seated here e =
-    let mine : IsSeated tenant.quiet = subst SeatedPart here (seated t) in
-    let p : Plan = plan g t tenant.quiet (starts a) in
+    let mine : IsSeated tenant.state = subst SeatedPart here (seated t) in
+    let p : Plan = plan g t tenant.state (starts a) in
     let called = performed (store_of w t tenant) p.call in
-    subst (λ part. FoundWork tenant.quiet (deed_step g w t (starts a) part)) (sym here)
-    (ended-found w t tenant.quiet called.store (p.next called.told)
-    (ready-begins g t tenant.quiet a mine e called.told))
+    subst (λ part. FoundWork tenant.state (deed_step g w t (starts a) part)) (sym here)
+    (ended-found w t tenant.state called.store (p.next called.told)
+    (ready-begins g t tenant.state a mine e called.told))

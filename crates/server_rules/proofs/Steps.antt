@@ -11,8 +11,8 @@ use Rattle.ref_table.specs.Store.{Store}
 use Rattle.ref_table.specs.Performed.{Performed}
 use Rattle.ref_table.specs.Calls.{nothing, inside, gives_up, performed}
 use Rattle.server_rules.specs.Ground.{Ground}
-use Rattle.server_rules.specs.Request.{Hand, Run}
-use Rattle.server_rules.specs.Tenant.{ActorData, seat_of, Quiet, is_held}
+use Rattle.server_rules.specs.Request.{WorkInHand, Run}
+use Rattle.server_rules.specs.Tenant.{ActorData, seat_of, TenantState, is_held}
 use Rattle.server_rules.specs.Plan.{Deed, hears, starts, asks_for, ends, drains}
 use Rattle.repl_asks.specs.Job.{EndingData}
 use Rattle.server_rules.specs.Plan.{StepAnswer, tenant_opened, Outcome, refuses, leaves, Plan}
@@ -45,7 +45,7 @@ pub data SeenStepped : Type 0 where
 
 abbrev pub ended_seen : Seen → Outcome → SeenStepped
 ended_seen s (refuses why) = not_done why
-ended_seen s (leaves q answer) = done_so (Some (Some (record { quiet = q; mine = s }))) answer
+ended_seen s (leaves q answer) = done_so (Some (Some (record { state = q; mine = s }))) answer
 
 abbrev pub done_seen : Plan → Performed Seen → SeenStepped
 done_seen p called = ended_seen called.store (p.next called.told)
@@ -54,7 +54,7 @@ abbrev pub step_seen : Ground → ℕ → Option (Option View) → Deed → Seen
 step_seen g t None d = not_done Refusal.NoSuchTenant
 step_seen g t (Some None) d = not_done Refusal.NoSuchTenant
 step_seen g t (Some (Some v)) d =
-    let p = plan g t v.quiet d in done_seen p (performed_seen t v.mine p.call)
+    let p = plan g t v.state d in done_seen p (performed_seen t v.mine p.call)
 
 abbrev pub seen_step : ℕ → Stepped → SeenStepped
 seen_step t (refused why) = not_done why
@@ -62,7 +62,7 @@ seen_step t (accepted w answer) = done_so (view_for t w) answer
 
 -- A deed that names no shared ref calls none
 
-worn-private : (q : Quiet) (p : Plan) → IsPrivateCall p.call
+worn-private : (q : TenantState) (p : Plan) → IsPrivateCall p.call
     → IsPrivateCall (unless_worn q p).call
 worn-private q p h =
     elim (q.steps == 0)
@@ -105,8 +105,8 @@ call-private seat (exchange.may_send s) h = by (seat == seat_of Actor.Agents) wh
 call-private seat (exchange.await ns) h = tt
 
 allowed-private
-    : (g : Ground) (a : Actor) (actor : ActorData) (h : Hand) (run : Run) (ask : AskData)
-    (q : Quiet) → IsPrivate ask → IsPrivateCall (asked_allowed g a actor h run ask q).call
+    : (g : Ground) (a : Actor) (actor : ActorData) (h : WorkInHand) (run : Run) (ask : AskData)
+    (q : TenantState) → IsPrivate ask → IsPrivateCall (asked_allowed g a actor h run ask q).call
 allowed-private g a actor h run ask q private = by actor.is_closed where
   by : (b : Bool) → IsPrivateCall (let p : Plan = (if b
       then record {
@@ -121,7 +121,7 @@ allowed-private g a actor h run ask q private = by actor.is_closed where
   by false = call-private (seat_of a) ask private
 
 running-private
-    : (g : Ground) (a : Actor) (actor : ActorData) (h : Hand) (ask : AskData) (q : Quiet)
+    : (g : Ground) (a : Actor) (actor : ActorData) (h : WorkInHand) (ask : AskData) (q : TenantState)
     (run : Option Run) → IsPrivate ask → IsPrivateCall (asked_running g a actor h ask q run).call
 running-private g a actor h ask q None private = tt
 running-private g a actor h ask q (Some run) private =
@@ -133,13 +133,13 @@ running-private g a actor h ask q (Some run) private =
     ]
 
 asked-private
-    : (g : Ground) (a : Actor) (actor : ActorData) (ask : AskData) (q : Quiet) (h : Option Hand)
+    : (g : Ground) (a : Actor) (actor : ActorData) (ask : AskData) (q : TenantState) (h : Option WorkInHand)
     → IsPrivate ask → IsPrivateCall (asked_of g a actor ask q h).call
 asked-private g a actor ask q None private = tt
 asked-private g a actor ask q (Some h) private = running-private g a actor h ask q h.running private
 
 compared-private
-    : (a : Actor) (actor : ActorData) (h : Hand) (run : Run) (e : EndingData) (q : Quiet)
+    : (a : Actor) (actor : ActorData) (h : WorkInHand) (run : Run) (e : EndingData) (q : TenantState)
     (same : Bool) (difference : Option ℕ)
     → IsPrivateCall (end_compared a actor h run e q same difference).call
 compared-private a actor h run e q false difference = tt
@@ -147,8 +147,8 @@ compared-private a actor h run e q true (Some place) = tt
 compared-private a actor h run e q true None = tt
 
 held-private
-    : (g : Ground) (a : Actor) (actor : ActorData) (h : Hand) (run : Run) (e : EndingData)
-    (q : Quiet) → IsPrivateCall
+    : (g : Ground) (a : Actor) (actor : ActorData) (h : WorkInHand) (run : Run) (e : EndingData)
+    (q : TenantState) → IsPrivateCall
     (if is_held q then quietly (refuses Refusal.Held) else end_checked g a actor h run e q).call
 held-private g a actor h run e q =
     elim (is_held q)
@@ -160,7 +160,7 @@ held-private g a actor h run e q =
     ]
 
 end-private
-    : (g : Ground) (a : Actor) (actor : ActorData) (h : Hand) (e : EndingData) (q : Quiet)
+    : (g : Ground) (a : Actor) (actor : ActorData) (h : WorkInHand) (e : EndingData) (q : TenantState)
     (run : Option Run) → IsPrivateCall (end_running g a actor h e q run).call
 end-private g a actor h e q None = tt
 end-private g a actor h e q (Some run) =
@@ -173,12 +173,12 @@ end-private g a actor h e q (Some run) =
     ]
 
 end_of-private
-    : (g : Ground) (a : Actor) (actor : ActorData) (e : EndingData) (q : Quiet) (h : Option Hand)
+    : (g : Ground) (a : Actor) (actor : ActorData) (e : EndingData) (q : TenantState) (h : Option WorkInHand)
     → IsPrivateCall (end_of g a actor e q h).call
 end_of-private g a actor e q None = tt
 end_of-private g a actor e q (Some h) = end-private g a actor h e q h.running
 
-plan-private : (g : Ground) (t : ℕ) (q : Quiet) (d : Deed) → NamesNoShared d
+plan-private : (g : Ground) (t : ℕ) (q : TenantState) (d : Deed) → NamesNoShared d
     → IsPrivateCall (plan g t q d).call
 plan-private g t q (hears piece) h = tt
 plan-private g t q (starts a) h =
@@ -198,7 +198,7 @@ ended-seen_of : (w : World) (t : ℕ) (old : Option TenantData) → part_under t
 ended-seen_of w t old here s (refuses why) = refl
 ended-seen_of w t old here s (leaves q answer) =
     ap (λ part. done_so (option_map part_view part) answer)
-    (part_under-new t (Some (record { quiet = q; mine = s.mine })) old w.tenants here)
+    (part_under-new t (Some (record { state = q; mine = s.mine })) old w.tenants here)
 
 abbrev pub SoundPart : ℕ → Option (Option TenantData) → Type 0
 SoundPart counter None = ⊤
@@ -218,11 +218,11 @@ deed-seen
 deed-seen g w t d None sound private here = refl
 deed-seen g w t d (Some None) sound private here = refl
 deed-seen g w t d (Some (Some tenant)) sound private here =
-    let p : Plan = plan g t tenant.quiet d in
+    let p : Plan = plan g t tenant.state d in
     let called = performed (store_of w t tenant) p.call in
     ended-seen_of w t (Some tenant) here called.store (p.next called.told)
     ∙ ap (done_seen p) (sym (performed-seen_of (store_of w t tenant) p.call sound
-    (plan-private g t tenant.quiet d private)))
+    (plan-private g t tenant.state d private)))
 
 pub step-seen
     : (g : Ground) (w : World) (t : ℕ) (d : Deed) → SoundWorld w → NamesNoShared d
@@ -256,7 +256,7 @@ ended-other : (w : World) (t u : ℕ) (s : Store) (o : Outcome) → t ≢ u
     → part_under t (world_or w (ended_as w u s o)).tenants ≡ part_under t w.tenants
 ended-other w t u s (refuses why) other = refl
 ended-other w t u s (leaves q answer) other =
-    part_under-other t u (Some (record { quiet = q; mine = s.mine })) w.tenants other
+    part_under-other t u (Some (record { state = q; mine = s.mine })) w.tenants other
 
 deed-other
     : (g : Ground) (w : World) (t u : ℕ) (d : Deed) (part : Option (Option TenantData)) → t ≢ u
@@ -264,7 +264,7 @@ deed-other
 deed-other g w t u d None other = refl
 deed-other g w t u d (Some None) other = refl
 deed-other g w t u d (Some (Some tenant)) other =
-    let p : Plan = plan g u tenant.quiet d in
+    let p : Plan = plan g u tenant.state d in
     let called = performed (store_of w u tenant) p.call in
     ended-other w t u called.store (p.next called.told) other
 
@@ -305,7 +305,7 @@ ended-sound
     → SoundWorld (world_or w (ended_as w t s o))
 ended-sound w t old here sound s (refuses why) rises = sound
 ended-sound w t old here sound s (leaves q answer) rises = λ n.
-    part-new s.around.counter n t (Some (record { quiet = q; mine = s.mine })) old w.tenants here
+    part-new s.around.counter n t (Some (record { state = q; mine = s.mine })) old w.tenants here
     rises.sound
     (part-higher w.around.counter s.around.counter (part_under n w.tenants) rises.rises (sound n))
 
@@ -316,7 +316,7 @@ deed-sound
 deed-sound g w t d None sound mine here = sound
 deed-sound g w t d (Some None) sound mine here = sound
 deed-sound g w t d (Some (Some tenant)) sound mine here =
-    let p : Plan = plan g t tenant.quiet d in
+    let p : Plan = plan g t tenant.state d in
     let s = store_of w t tenant in
     let called = performed s p.call in
     ended-sound w t (Some tenant) here sound called.store (p.next called.told)

@@ -17,8 +17,8 @@ use Rattle.ref_table.specs.Calls.{gives_up}
 use Rattle.server_rules.specs.Cells.{CellsData, has_named, cell_answer, SenderData, cells_after}
 use Rattle.server_rules.specs.Cells.{must_wait}
 use Rattle.server_rules.specs.Ground.{Ground}
-use Rattle.server_rules.specs.Request.{Manner, of_action, Hand, Run}
-use Rattle.server_rules.specs.Tenant.{ActorData, seat_of, Quiet, with_actor, actor_state}
+use Rattle.server_rules.specs.Request.{Manner, of_action, WorkInHand, Run}
+use Rattle.server_rules.specs.Tenant.{ActorData, seat_of, TenantState, with_actor, actor_state}
 use Rattle.server_rules.specs.Starting.{interrupted_in}
 use Rattle.server_rules.specs.Plan.{Outcome, refuses, leaves, ask_answered, Plan, quietly}
 use Rattle.server_rules.specs.Plan.{with_step_spent}
@@ -26,8 +26,8 @@ use Rattle.server_rules.specs.declared.actor.Actor.{Actor}
 use Rattle.server_rules.specs.declared.refusal.Refusal.{Refusal}
 
 -- an action asks also outside of attempts whether it may send
-abbrev pub send_call : ℕ → Call
-send_call seat = if seat == seat_of Actor.Agents then nothing else inside seat
+abbrev pub may_send_call : ℕ → Call
+may_send_call seat = if seat == seat_of Actor.Agents then nothing else inside seat
 
 -- what is asked of the refs
 abbrev pub call_of : ℕ → AskData → Call
@@ -41,7 +41,7 @@ call_of seat (exchange.max_history name None) = tells_most name
 call_of seat (exchange.max_history name (Some n)) = sets_most name n
 call_of seat (exchange.commit intent) = commits seat intent
 call_of seat (exchange.send s) = outside seat
-call_of seat (exchange.may_send s) = send_call seat
+call_of seat (exchange.may_send s) = may_send_call seat
 call_of seat (exchange.await ns) = outside seat
 call_of seat _ = nothing
 
@@ -79,13 +79,13 @@ abbrev pub resolution_of : StateData → FoundData → ResolutionData
 resolution_of state (found_resolution r) = r
 resolution_of state (found_latest latest) = names_value (latest_of latest state)
 
-abbrev pub symbol_resolution : Ground → Actor → Quiet → List ℕ → List ℕ → ResolutionData
+abbrev pub symbol_resolution : Ground → Actor → TenantState → List ℕ → List ℕ → ResolutionData
 symbol_resolution g a q namespace symbol =
     resolution_of (actor_state a q) (names.resolved g.shared.names q.spaces namespace symbol)
 
 -- The answer is what the refs told, but for symbols, atoms and agents; to a definition and to an
 -- entered namespace they told `done`.
-abbrev pub answer_to : Ground → Actor → Quiet → AskData → AnswerData → AnswerData
+abbrev pub answer_to : Ground → Actor → TenantState → AskData → AnswerData → AnswerData
 answer_to g a q (exchange.resolve namespace symbol) told =
     exchange.resolution (symbol_resolution g a q namespace symbol)
 answer_to g a q ask told = cell_answer ask q.cells told
@@ -96,45 +96,45 @@ spaces_after (exchange.define namespace name binding) spaces =
 spaces_after (exchange.enter name) spaces = with_entered_namespace spaces name
 spaces_after _ spaces = spaces
 
-abbrev pub session_of : Actor → Option ℕ
-session_of (Actor.Session n) = Some n
-session_of a = None
+abbrev pub session_number : Actor → Option ℕ
+session_number (Actor.Session n) = Some n
+session_number a = None
 
 -- what an action sends comes from the session that sent the action
 abbrev pub sending_session : Actor → Manner → Option ℕ
 sending_session a (of_action session) = session
-sending_session a manner = session_of a
+sending_session a manner = session_number a
 
-abbrev pub sender_of : Actor → Hand → SenderData
+abbrev pub sender_of : Actor → WorkInHand → SenderData
 sender_of a h = record { origin = h.origin; session = sending_session a h.manner }
 
 -- what an ask that is answered so makes of the tenant, beside its refs
-abbrev pub quiet_after : SenderData → AskData → AnswerData → Quiet → Quiet
-quiet_after sender ask answer q = record q {
+abbrev pub state_after : SenderData → AskData → AnswerData → TenantState → TenantState
+state_after sender ask answer q = record q {
   spaces = spaces_after ask q.spaces;
   cells = cells_after sender ask answer q.cells;
 }
 
-abbrev pub with_recorded_answer : Actor → ActorData → Hand → Run → AskData → AnswerData → Quiet
-    → Quiet
+abbrev pub with_recorded_answer : Actor → ActorData → WorkInHand → Run → AskData → AnswerData → TenantState
+    → TenantState
 with_recorded_answer a actor h run ask answer q =
     let trace = run.trace ++ record { ask = ask; answer = answer } ∷ [] in
     let more : Run = record run { trace = trace } in
     with_actor a (record actor { hand = Some (record h { running = Some more }) }) q
 
-abbrev pub ask_outcome : Ground → Actor → ActorData → Hand → Run → AskData → Quiet → AnswerData
+abbrev pub ask_outcome : Ground → Actor → ActorData → WorkInHand → Run → AskData → TenantState → AnswerData
     → Outcome
 ask_outcome g a actor h run ask q told =
     let answer = answer_to g a q ask told in
-    let after = quiet_after (sender_of a h) ask answer q in
+    let after = state_after (sender_of a h) ask answer q in
     leaves (with_step_spent (with_recorded_answer a actor h run ask answer after))
     (ask_answered answer)
 
 -- an await that is not met stays asked
-abbrev pub answer_outcome : Ground → Actor → ActorData → Hand → Run → AskData → Quiet → AnswerData
+abbrev pub answer_outcome : Ground → Actor → ActorData → WorkInHand → Run → AskData → TenantState → AnswerData
     → Outcome
 answer_outcome g a actor h run ask q told =
-    if must_wait (session_of a) ask q.cells then refuses Refusal.Waiting
+    if must_wait (session_number a) ask q.cells then refuses Refusal.Waiting
     else ask_outcome g a actor h run ask q told
 
 -- an ask that breaks a rule is none of an evaluation's
@@ -145,18 +145,18 @@ when_told (Some told) next = next told
 abbrev pub calling : Call → (AnswerData → Outcome) → Plan
 calling call next = record { call = call; next = λ told. when_told told next }
 
-abbrev pub asked_allowed : Ground → Actor → ActorData → Hand → Run → AskData → Quiet → Plan
+abbrev pub asked_allowed : Ground → Actor → ActorData → WorkInHand → Run → AskData → TenantState → Plan
 asked_allowed g a actor h run ask q =
     if actor.is_closed
     then calling (gives_up (seat_of a) (call_of (seat_of a) ask)) (λ _. interrupted_in a h q)
     else calling (call_of (seat_of a) ask) (answer_outcome g a actor h run ask q)
 
-abbrev pub asked_running : Ground → Actor → ActorData → Hand → AskData → Quiet → Option Run → Plan
+abbrev pub asked_running : Ground → Actor → ActorData → WorkInHand → AskData → TenantState → Option Run → Plan
 asked_running g a actor h ask q None = quietly (refuses Refusal.Idle)
 asked_running g a actor h ask q (Some run) =
     if may_ask a ask && is_allowed ask q.cells then asked_allowed g a actor h run ask q
     else quietly (refuses Refusal.Idle)
 
-abbrev pub asked_of : Ground → Actor → ActorData → AskData → Quiet → Option Hand → Plan
+abbrev pub asked_of : Ground → Actor → ActorData → AskData → TenantState → Option WorkInHand → Plan
 asked_of g a actor ask q None = quietly (refuses Refusal.Idle)
 asked_of g a actor ask q (Some h) = asked_running g a actor h ask q h.running

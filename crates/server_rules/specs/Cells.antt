@@ -161,13 +161,13 @@ abbrev pub next_from : Option Datum → Option SentAction → Option NextAction
 next_from (Some d) (Some x) = Some (record { state = d; action = x.action })
 next_from state sent = None
 
-abbrev pub next_of : AgentsData → Option ActionTurn → Option NextAction
-next_of agents None = None
-next_of agents (Some turn) =
+abbrev pub next_action_by : AgentsData → Option ActionTurn → Option NextAction
+next_action_by agents None = None
+next_action_by agents (Some turn) =
     next_from (agent_state turn.agent agents) (first_waiting turn.agent agents)
 
 abbrev pub next_action : AgentsData → Option NextAction
-next_action agents = next_of agents (next_turn agents)
+next_action agents = next_action_by agents (next_turn agents)
 
 -- whether an attempt runs behind this
 abbrev pub stays_inside : Bool → AskData → AnswerData → Bool

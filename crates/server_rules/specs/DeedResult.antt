@@ -2,7 +2,7 @@
 use Rattle.ref_table.specs.Store.{Store}
 use Rattle.ref_table.specs.Calls.{performed}
 use Rattle.server_rules.specs.Ground.{Ground}
-use Rattle.server_rules.specs.Tenant.{Quiet}
+use Rattle.server_rules.specs.Tenant.{TenantState}
 use Rattle.server_rules.specs.Plan.{Deed, Outcome, Plan}
 use Rattle.server_rules.specs.Deeds.{plan}
 
@@ -18,5 +18,5 @@ carried_out s p =
     record { outcome = p.next called.told; store = called.store }
 
 -- what a deed comes to of the tenant whose store this is
-unfoldable pub deed_result : Ground → Store → Quiet → Deed → DeedResult
+unfoldable pub deed_result : Ground → Store → TenantState → Deed → DeedResult
 deed_result g s q d = carried_out s (plan g s.tenant q d)

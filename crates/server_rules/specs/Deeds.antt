@@ -3,8 +3,8 @@ use Rattle.std.specs.Prelude.{ℕ, ◌==◌, List, [], ◌∷◌, Option, None, 
 use Rattle.repl_replies.specs.Replies.{ReplyData, bytes_of}
 use Rattle.ref_table.specs.Numbered.{part_under}
 use Rattle.server_rules.specs.Ground.{Ground}
-use Rattle.server_rules.specs.Request.{Hand}
-use Rattle.server_rules.specs.Tenant.{ActorData, seat_of, Quiet}
+use Rattle.server_rules.specs.Request.{WorkInHand}
+use Rattle.server_rules.specs.Tenant.{ActorData, seat_of, TenantState}
 use Rattle.server_rules.specs.Hearing.{hearing_plan}
 use Rattle.server_rules.specs.Starting.{start_in_hand, start_waiting}
 use Rattle.server_rules.specs.Asking.{asked_of}
@@ -14,7 +14,7 @@ use Rattle.server_rules.specs.Plan.{leaves, reply_given, Plan, quietly}
 use Rattle.server_rules.specs.declared.actor.Actor.{Actor}
 use Rattle.server_rules.specs.declared.refusal.Refusal.{Refusal}
 
-abbrev pub start_of : Ground → Actor → ActorData → Quiet → Option Hand → Outcome
+abbrev pub start_of : Ground → Actor → ActorData → TenantState → Option WorkInHand → Outcome
 start_of g a actor q None = start_waiting g a actor q actor.waiting
 start_of g a actor q (Some h) = start_in_hand g a actor h q (is_some h.running)
 
@@ -23,16 +23,16 @@ for_actor None plan = quietly (refuses Refusal.NoSuchActor)
 for_actor (Some actor) plan = plan actor
 
 -- a tenant whose steps are used up takes none but drains
-abbrev pub unless_worn : Quiet → Plan → Plan
+abbrev pub unless_worn : TenantState → Plan → Plan
 unless_worn q plan = if q.steps == 0 then quietly (refuses Refusal.Worn) else plan
 
-abbrev pub drain_outcome : Quiet → List ReplyData → Outcome
+abbrev pub drain_outcome : TenantState → List ReplyData → Outcome
 drain_outcome q [] = refuses Refusal.Idle
 drain_outcome q (oldest ∷ more) = leaves (record q { replies = more })
     (reply_given (bytes_of oldest))
 
 -- the plan of the tenant with this number
-abbrev pub plan : Ground → ℕ → Quiet → Deed → Plan
+abbrev pub plan : Ground → ℕ → TenantState → Deed → Plan
 plan g t q (hears piece) = hearing_plan g t piece q
 plan g t q (starts a) = unless_worn q
     (for_actor (part_under (seat_of a) q.actors)

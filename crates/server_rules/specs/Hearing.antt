@@ -8,7 +8,7 @@ use Rattle.bencode_wire.specs.declared.fault.WireFault.{WireFault}
 use Rattle.repl_replies.specs.Replies.{no_origin, malformed, ReplyData}
 use Rattle.server_rules.specs.Readings.{Readings}
 use Rattle.server_rules.specs.Ground.{Ground}
-use Rattle.server_rules.specs.Tenant.{Quiet, is_held, with_replies}
+use Rattle.server_rules.specs.Tenant.{TenantState, is_held, with_replies}
 use Rattle.server_rules.specs.Replying.{reply}
 use Rattle.server_rules.specs.Operating.{with_message}
 use Rattle.server_rules.specs.Plan.{Outcome, refuses, leaves, messages_heard, Plan, quietly}
@@ -22,7 +22,7 @@ fault_in (fault rule at) = Some (fault_at rule (counted_place at))
 abbrev pub stream_fault : Readings → List ℕ → Option WireFault
 stream_fault r bytes = fault_in (r.stream bytes).ending
 
-abbrev pub with_messages : Ground → ℕ → List Tree → Quiet → Quiet
+abbrev pub with_messages : Ground → ℕ → List Tree → TenantState → TenantState
 with_messages g t [] q = q
 with_messages g t (m ∷ ms) q = with_messages g t ms (with_message g t m q)
 
@@ -36,20 +36,20 @@ abbrev pub fault_told : Option WireFault → List ReplyData
 fault_told None = []
 fault_told (Some f) = reply no_origin malformed ∷ []
 
-unfoldable pub taken_in : Ground → ℕ → List ℕ → Quiet → Quiet
+unfoldable pub taken_in : Ground → ℕ → List ℕ → TenantState → TenantState
 taken_in g t piece q =
     with_replies (fault_told (stream_fault g.readings (q.heard ++ piece)))
     (with_messages g t (new_messages g.readings q.heard piece)
     (record q { heard = q.heard ++ piece }))
 
-abbrev pub hears_more : Ground → ℕ → List ℕ → Quiet → Option WireFault → Outcome
+abbrev pub hears_more : Ground → ℕ → List ℕ → TenantState → Option WireFault → Outcome
 hears_more g t piece q (Some f) = refuses (Refusal.Wire f)
 hears_more g t piece q None =
     if is_held q then refuses Refusal.Held
     else leaves (with_step_spent (taken_in g t piece q))
     (messages_heard (length (new_messages g.readings q.heard piece)))
 
-abbrev pub hearing_plan : Ground → ℕ → List ℕ → Quiet → Plan
+abbrev pub hearing_plan : Ground → ℕ → List ℕ → TenantState → Plan
 hearing_plan g t piece q = quietly
     (if q.steps == 0 then refuses Refusal.Worn
     else hears_more g t piece q (stream_fault g.readings q.heard))

@@ -4,8 +4,8 @@ use Rattle.repl_asks.specs.InteractionTree.{InteractionTree, finished, asks}
 use Rattle.repl_asks.specs.Leading.{tree_after}
 use Rattle.ref_table.specs.Numbered.{part_under}
 use Rattle.server_rules.specs.Ground.{Ground}
-use Rattle.server_rules.specs.Request.{Hand, Run}
-use Rattle.server_rules.specs.Tenant.{ActorData, seat_of, Quiet}
+use Rattle.server_rules.specs.Request.{WorkInHand, Run}
+use Rattle.server_rules.specs.Tenant.{ActorData, seat_of, TenantState}
 use Rattle.server_rules.specs.Plan.{Deed, starts, asks_for, ends}
 use Rattle.server_rules.specs.declared.actor.Actor.{Actor}
 
@@ -18,7 +18,7 @@ abbrev pub honest_of : Ground → Actor → Option Run → Deed
 honest_of g a None = starts a
 honest_of g a (Some run) = honest_at a run (tree_after (g.evaluation run.job) run.trace)
 
-abbrev pub honest_in : Ground → Actor → Option Hand → Deed
+abbrev pub honest_in : Ground → Actor → Option WorkInHand → Deed
 honest_in g a None = starts a
 honest_in g a (Some h) = honest_of g a h.running
 
@@ -26,6 +26,6 @@ abbrev pub honest_by : Ground → Actor → Option ActorData → Deed
 honest_by g a None = starts a
 honest_by g a (Some actor) = honest_in g a actor.hand
 
-abbrev pub honest_deed : Ground → Actor → Option (Option Quiet) → Deed
+abbrev pub honest_deed : Ground → Actor → Option (Option TenantState) → Deed
 honest_deed g a (Some (Some q)) = honest_by g a (part_under (seat_of a) q.actors)
 honest_deed g a _ = starts a

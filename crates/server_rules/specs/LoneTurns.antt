@@ -2,7 +2,7 @@
 use Rattle.std.specs.Prelude.{ℕ, List, [], ◌∷◌, ◌++◌, Some, map, filter, Bool, true, false, not}
 use Rattle.ref_table.specs.Store.{Around, Own, Store}
 use Rattle.server_rules.specs.Ground.{Ground}
-use Rattle.server_rules.specs.Tenant.{Quiet, opened_quiet}
+use Rattle.server_rules.specs.Tenant.{TenantState, opened_state}
 use Rattle.server_rules.specs.Tenant.{actor_at}
 use Rattle.server_rules.specs.Plan.{Deed, Outcome, refuses, leaves}
 use Rattle.server_rules.specs.Plan as deeds
@@ -20,39 +20,39 @@ pub data LoneTurn : Type 0 where
   drains : LoneTurn
 
 -- a tenant that is served alone, and what it reaches of the refs
-pub record Lone : Type 0 where
-  pub quiet : Quiet
+pub record LoneTenant : Type 0 where
+  pub state : TenantState
   pub store : Store
 
 -- it begins as the tenant with the first number, and has no refs of its own
-abbrev pub opened_lone : Ground → Lone
+abbrev pub opened_lone : Ground → LoneTenant
 opened_lone g =
     let around : Around = record { counter = 0; refs = g.shared.refs } in
     let mine : Own = record { refs = []; points = [] } in
-    record { quiet = opened_quiet g; store = record { around = around; tenant = 0; mine = mine } }
+    record { state = opened_state g; store = record { around = around; tenant = 0; mine = mine } }
 
 -- what a turn makes of the tenant, with the bytes that it gives; or why it is refused
 pub data LoneStepped : Type 0 where
-  accepted : Lone → List ℕ → LoneStepped
+  accepted : LoneTenant → List ℕ → LoneStepped
   refused : Refusal → LoneStepped
 
-abbrev pub deed_of : Ground → Lone → LoneTurn → Deed
+abbrev pub deed_of : Ground → LoneTenant → LoneTurn → Deed
 deed_of g l (hears piece) = deeds.hears piece
-deed_of g l (goes a) = honest_deed g a (Some (Some l.quiet))
+deed_of g l (goes a) = honest_deed g a (Some (Some l.state))
 deed_of g l drains = deeds.drains
 
 abbrev pub lone_ended : Store → Outcome → LoneStepped
 lone_ended s (refuses why) = refused why
-lone_ended s (leaves q answer) = accepted (record { quiet = q; store = s }) (bytes_in answer)
+lone_ended s (leaves q answer) = accepted (record { state = q; store = s }) (bytes_in answer)
 
 abbrev pub stepped_as : DeedResult → LoneStepped
 stepped_as d = lone_ended d.store d.outcome
 
-unfoldable pub lone_step : Ground → Lone → LoneTurn → LoneStepped
-lone_step g l turn = stepped_as (deed_result g l.store l.quiet (deed_of g l turn))
+unfoldable pub lone_step : Ground → LoneTenant → LoneTurn → LoneStepped
+lone_step g l turn = stepped_as (deed_result g l.store l.state (deed_of g l turn))
 
 -- a refused turn leaves the tenant as it was, and gives nothing
-abbrev pub lone_or : Lone → LoneStepped → Lone
+abbrev pub lone_or : LoneTenant → LoneStepped → LoneTenant
 lone_or old (accepted new bytes) = new
 lone_or old (refused why) = old
 
@@ -60,15 +60,15 @@ abbrev pub reply_taken : LoneStepped → List ℕ
 reply_taken (accepted new bytes) = bytes
 reply_taken (refused why) = []
 
-abbrev pub lone_after : Ground → Lone → LoneTurn → Lone
+abbrev pub lone_after : Ground → LoneTenant → LoneTurn → LoneTenant
 lone_after g l turn = lone_or l (lone_step g l turn)
 
-abbrev pub lone_run : Ground → Lone → List LoneTurn → Lone
+abbrev pub lone_run : Ground → LoneTenant → List LoneTurn → LoneTenant
 lone_run g l [] = l
 lone_run g l (turn ∷ turns) = lone_run g (lone_after g l turn) turns
 
 -- what a list of turns serves: the bytes that its turns give, joined
-abbrev pub lone_served : Ground → Lone → List LoneTurn → List ℕ
+abbrev pub lone_served : Ground → LoneTenant → List LoneTurn → List ℕ
 lone_served g l [] = []
 lone_served g l (turn ∷ turns) = reply_taken (lone_step g l turn)
     ++ lone_served g (lone_after g l turn) turns
@@ -82,5 +82,5 @@ abbrev pub agents_last : List Actor → List Actor
 agents_last actors = filter (λ a. not (is_of_agents a)) actors ++ Actor.Agents ∷ []
 
 -- the actors, in the order of their rounds
-abbrev pub actors_of : Lone → List Actor
-actors_of l = agents_last (map (λ e. actor_at e.number) l.quiet.actors)
+abbrev pub actors_of : LoneTenant → List Actor
+actors_of l = agents_last (map (λ e. actor_at e.number) l.state.actors)

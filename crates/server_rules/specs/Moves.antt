@@ -7,12 +7,12 @@ use Rattle.repl_asks.specs.Job.{EndData}
 use Rattle.repl_sessions.specs.State.{StateData, after_value, after_fault, in_namespace}
 use Rattle.repl_replies.specs.Replies.{OriginData, done, ReplyData}
 use Rattle.server_rules.specs.Request.{Manner, each_form, each_form_elsewhere, last_form, of_action}
-use Rattle.server_rules.specs.Request.{Hand}
+use Rattle.server_rules.specs.Request.{WorkInHand}
 use Rattle.server_rules.specs.Replying.{reply, fault_replies, output_replies, value_reply}
 
 pub record Move : Type 0 where
   -- what of the request is still to do; none where it is done
-  pub hand : Option Hand
+  pub hand : Option WorkInHand
   pub replies : List ReplyData
   -- what the session then remembers
   pub state : StateData
@@ -20,7 +20,7 @@ pub record Move : Type 0 where
 abbrev pub over_move : List ReplyData → StateData → Move
 over_move replies state = record { hand = None; replies = replies; state = state }
 
-abbrev pub in_hand : Hand → StateData → Move
+abbrev pub in_hand : WorkInHand → StateData → Move
 in_hand h state = record { hand = Some h; replies = []; state = state }
 
 abbrev pub preceded_by : List ReplyData → Move → Move
@@ -42,7 +42,7 @@ closing_move origin (last_form d) None state =
 closing_move origin _ None state = over_move (reply origin done ∷ []) state
 
 -- behind a form that ended: the request waits for its next form, or is done
-abbrev pub going_on : Hand → Items → StateData → Move
+abbrev pub going_on : WorkInHand → Items → StateData → Move
 going_on h no_items state = closing_move h.origin h.manner h.fault state
 going_on h (item d ds) state = in_hand (record h { running = None; forms = item d ds }) state
 
@@ -59,13 +59,13 @@ abbrev pub end_replies : OriginData → EndData → List ReplyData
 end_replies origin e = output_replies origin e.text ++ result_replies origin e e.result
 
 -- of a file only the last value is told, and its first fault ends it
-abbrev pub form_loaded : Hand → EndData → Result Datum Failure → StateData → Move
+abbrev pub form_loaded : WorkInHand → EndData → Result Datum Failure → StateData → Move
 form_loaded h e (Ok d) state = preceded_by (output_replies h.origin e.text)
     (going_on (record h { manner = last_form d; namespace = e.namespace }) h.forms state)
 form_loaded h e (Err f) state =
     preceded_by (output_replies h.origin e.text) (over_by h.origin f state)
 
-abbrev pub form_ended_as : Hand → EndData → StateData → Manner → Move
+abbrev pub form_ended_as : WorkInHand → EndData → StateData → Manner → Move
 form_ended_as h e state each_form = preceded_by (end_replies h.origin e)
     (going_on (record h { namespace = e.namespace }) h.forms
     (in_namespace e.namespace (result_noted e.result state)))
@@ -74,5 +74,5 @@ form_ended_as h e state each_form_elsewhere = preceded_by (end_replies h.origin 
 form_ended_as h e state (last_form d) = form_loaded h e e.result state
 form_ended_as h e state (of_action session) = over_move (output_replies h.origin e.text) state
 
-unfoldable pub form_ended : Hand → EndData → StateData → Move
+unfoldable pub form_ended : WorkInHand → EndData → StateData → Move
 form_ended h e state = form_ended_as h e state h.manner

@@ -3,7 +3,7 @@ use Rattle.std.specs.Prelude.{ℕ, ◌-◌, List, [], Option}
 use Rattle.repl_asks.specs.Exchange.{AskData, AnswerData}
 use Rattle.repl_asks.specs.Job.{JobData, EndingData}
 use Rattle.ref_table.specs.Calls.{Call, nothing}
-use Rattle.server_rules.specs.Tenant.{Quiet}
+use Rattle.server_rules.specs.Tenant.{TenantState}
 use Rattle.server_rules.specs.declared.actor.Actor.{Actor}
 use Rattle.server_rules.specs.declared.refusal.Refusal.{Refusal}
 
@@ -39,7 +39,7 @@ bytes_in _ = []
 -- what comes of a deed once the refs have told
 pub data Outcome : Type 0 where
   refuses : Refusal → Outcome
-  leaves : Quiet → StepAnswer → Outcome
+  leaves : TenantState → StepAnswer → Outcome
 
 pub record Plan : Type 0 where
   pub call : Call
@@ -50,5 +50,5 @@ abbrev pub quietly : Outcome → Plan
 quietly outcome = record { call = nothing; next = λ told. outcome }
 
 -- one step is used up
-abbrev pub with_step_spent : Quiet → Quiet
+abbrev pub with_step_spent : TenantState → TenantState
 with_step_spent q = record q { steps = q.steps - 1 }

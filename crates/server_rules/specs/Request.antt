@@ -34,7 +34,7 @@ pub record Run : Type 0 where
   pub trace : List Exchanged
 
 -- a request that was begun and is not done
-pub record Hand : Type 0 where
+pub record WorkInHand : Type 0 where
   pub origin : OriginData
   pub manner : Manner
   -- the namespace in which its next form is evaluated

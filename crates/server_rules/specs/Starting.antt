@@ -14,10 +14,10 @@ use Rattle.repl_replies.specs.Replies.{OriginData, namespace_not_found, interrup
 use Rattle.ref_table.specs.Numbered.{without}
 use Rattle.server_rules.specs.Readings.{ProgramData, text_failure}
 use Rattle.server_rules.specs.Ground.{Ground}
-use Rattle.server_rules.specs.Request.{Waiting, ProgramText, code, file, Manner, Hand, each_form}
+use Rattle.server_rules.specs.Request.{Waiting, ProgramText, code, file, Manner, WorkInHand, each_form}
 use Rattle.server_rules.specs.Request.{each_form_elsewhere, last_form, of_action}
 use Rattle.server_rules.specs.Cells.{NextAction, next_action, with_agents}
-use Rattle.server_rules.specs.Tenant.{ActorData, seat_of, Quiet, is_held, with_actor, with_replies}
+use Rattle.server_rules.specs.Tenant.{ActorData, seat_of, TenantState, is_held, with_actor, with_replies}
 use Rattle.server_rules.specs.Tenant.{actor_state, with_state}
 use Rattle.server_rules.specs.Replying.{reply}
 use Rattle.server_rules.specs.Moves.{Move, over_move, in_hand, closing_move}
@@ -31,19 +31,19 @@ pub record Started : Type 0 where
   pub move : Move
   pub answer : StepAnswer
 
-abbrev pub form_job : Ground → Hand → jobs.WorkData → JobData
+abbrev pub form_job : Ground → WorkInHand → jobs.WorkData → JobData
 form_job g h work = record { work = work; namespace = h.namespace; retries = g.retries }
 
 -- the first of the forms begins
-abbrev pub next_begun : Ground → Hand → StateData → Items → Started
+abbrev pub next_begun : Ground → WorkInHand → StateData → Items → Started
 next_begun g h state no_items =
     record { move = closing_move h.origin h.manner h.fault state; answer = request_answered }
 next_begun g h state (item d ds) =
     let job = form_job g h (jobs.form d) in
-    let begun : Hand = record h { running = Some (record { job = job; trace = [] }); forms = ds } in
+    let begun : WorkInHand = record h { running = Some (record { job = job; trace = [] }); forms = ds } in
     record { move = in_hand begun state; answer = form_begun job }
 
-abbrev pub hand_of : OriginData → Manner → List ℕ → ProgramData → Hand
+abbrev pub hand_of : OriginData → Manner → List ℕ → ProgramData → WorkInHand
 hand_of origin manner namespace p = record {
   origin = origin;
   manner = manner;
@@ -82,31 +82,31 @@ text_begun g spaces origin state (file text) =
     program_begun g origin (last_form nil) state.namespace state (g.readings.program text)
 
 -- only a session remembers something for its next request
-abbrev pub first_state : Actor → Quiet → StateData
+abbrev pub first_state : Actor → TenantState → StateData
 first_state Actor.Agents q = fresh
 first_state Actor.Bare q = fresh
 first_state (Actor.Session n) q = actor_state (Actor.Session n) q
 
 -- the actor goes on with what is still to do
-abbrev pub after_move : Actor → ActorData → Move → Quiet → Quiet
+abbrev pub after_move : Actor → ActorData → Move → TenantState → TenantState
 after_move a actor m q = with_replies m.replies
     (with_state a m.state (with_actor a (record actor { hand = m.hand }) q))
 
-abbrev pub start_outcome : Actor → ActorData → Started → Quiet → Outcome
+abbrev pub start_outcome : Actor → ActorData → Started → TenantState → Outcome
 start_outcome a actor s q = leaves (with_step_spent (after_move a actor s.move q)) s.answer
 
 -- Interrupting: the request is answered so, and the actor of the closed session is gone
-abbrev pub interrupted_in : Actor → Hand → Quiet → Outcome
+abbrev pub interrupted_in : Actor → WorkInHand → TenantState → Outcome
 interrupted_in a h q = leaves
     (with_step_spent (with_replies (reply h.origin interrupted ∷ [])
     (record q { actors = without (seat_of a) q.actors })))
     request_interrupted
 
-abbrev pub held_or : Quiet → Outcome → Outcome
+abbrev pub held_or : TenantState → Outcome → Outcome
 held_or q outcome = if is_held q then refuses Refusal.Held else outcome
 
 -- a form of the request in hand, where none runs
-abbrev pub start_in_hand : Ground → Actor → ActorData → Hand → Quiet → Bool → Outcome
+abbrev pub start_in_hand : Ground → Actor → ActorData → WorkInHand → TenantState → Bool → Outcome
 start_in_hand g a actor h q true = refuses Refusal.Idle
 start_in_hand g a actor h q false =
     if actor.is_closed then interrupted_in a h q
@@ -121,7 +121,7 @@ action_job g next = record {
   retries = g.retries;
 }
 
-abbrev pub action_hand : Ground → NextAction → Hand
+abbrev pub action_hand : Ground → NextAction → WorkInHand
 action_hand g next = record {
   origin = next.action.origin;
   manner = of_action next.action.session;
@@ -137,10 +137,10 @@ action_begun g next = record {
   answer = form_begun (action_job g next);
 }
 
-abbrev pub with_action_begun : Quiet → Quiet
+abbrev pub with_action_begun : TenantState → TenantState
 with_action_begun q = record q { cells = with_agents (with_next_begun q.cells.agents) q.cells }
 
-abbrev pub start_action : Ground → Actor → ActorData → Quiet → Option NextAction → Outcome
+abbrev pub start_action : Ground → Actor → ActorData → TenantState → Option NextAction → Outcome
 start_action g a actor q None = refuses Refusal.Idle
 start_action g a actor q (Some next) =
     held_or q (start_outcome a actor (action_begun g next) (with_action_begun q))
@@ -150,7 +150,7 @@ abbrev pub action_for : Actor → AgentsData → Option NextAction
 action_for Actor.Agents agents = next_action agents
 action_for a agents = None
 
-abbrev pub start_waiting : Ground → Actor → ActorData → Quiet → List Waiting → Outcome
+abbrev pub start_waiting : Ground → Actor → ActorData → TenantState → List Waiting → Outcome
 start_waiting g a actor q [] = start_action g a actor q (action_for a q.cells.agents)
 start_waiting g a actor q (w ∷ ws) = held_or q
     (start_outcome a (record actor { waiting = ws })

@@ -8,7 +8,7 @@ use Rattle.name_spaces.specs.Namespaces.{Namespaces, at_start}
 use Rattle.repl_replies.specs.Replies.{ReplyData}
 use Rattle.ref_table.specs.Numbered.{Entry, entry, with_part}
 use Rattle.server_rules.specs.Cells.{CellsData, no_cells}
-use Rattle.server_rules.specs.Request.{Waiting, Hand}
+use Rattle.server_rules.specs.Request.{Waiting, WorkInHand}
 use Rattle.server_rules.specs.Ground.{Ground}
 use Rattle.server_rules.specs.declared.actor.Actor.{Actor}
 use Rattle.server_rules.specs.declared.limits.TheConstants.{MOST_REPLIES}
@@ -18,7 +18,7 @@ use Rattle.server_rules.specs.declared.limits.TheConstants.{MOST_REPLIES}
 pub record ActorData : Type 0 where
   -- the requests that wait, oldest first, and the one in hand
   pub waiting : List Waiting
-  pub hand : Option Hand
+  pub hand : Option WorkInHand
   -- whether its session was closed while that one was in hand
   pub is_closed : Bool
 
@@ -37,7 +37,7 @@ actor_at zero = Actor.Agents
 actor_at (suc zero) = Actor.Bare
 actor_at (suc (suc n)) = Actor.Session n
 
-pub record Quiet : Type 0 where
+pub record TenantState : Type 0 where
   -- how many more pieces, and starts, asks and ends of forms it takes
   pub steps : ℕ
   -- the bytes of the stream so far
@@ -53,8 +53,8 @@ pub record Quiet : Type 0 where
   -- the replies that wait, oldest first
   pub replies : List ReplyData
 
-abbrev pub opened_quiet : Ground → Quiet
-opened_quiet g = record {
+abbrev pub opened_state : Ground → TenantState
+opened_state g = record {
   steps = g.steps;
   heard = [];
   sessions = none_open;
@@ -66,22 +66,22 @@ opened_quiet g = record {
 }
 
 -- so many waiting replies hold back whatever may add more
-abbrev pub is_held : Quiet → Bool
+abbrev pub is_held : TenantState → Bool
 is_held q = nat_le MOST_REPLIES (length q.replies)
 
-abbrev pub with_actor : Actor → ActorData → Quiet → Quiet
+abbrev pub with_actor : Actor → ActorData → TenantState → TenantState
 with_actor a actor q = record q { actors = with_part (seat_of a) actor q.actors }
 
-abbrev pub with_replies : List ReplyData → Quiet → Quiet
+abbrev pub with_replies : List ReplyData → TenantState → TenantState
 with_replies more q = record q { replies = q.replies ++ more }
 
 -- what the session of an actor remembers; to an action no session tells anything
-abbrev pub actor_state : Actor → Quiet → StateData
+abbrev pub actor_state : Actor → TenantState → StateData
 actor_state Actor.Agents q = fresh
 actor_state Actor.Bare q = q.bare
 actor_state (Actor.Session n) q = unwrap_or (sessions.state_of q.sessions n) fresh
 
-abbrev pub with_state : Actor → StateData → Quiet → Quiet
+abbrev pub with_state : Actor → StateData → TenantState → TenantState
 with_state Actor.Agents state q = q
 with_state Actor.Bare state q = record q { bare = state }
 with_state (Actor.Session n) state q =

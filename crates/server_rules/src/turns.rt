@@ -3,9 +3,9 @@ ghost use Rattle.std.specs.Prelude.{◌≡◌, ◌≢◌, ◌+◌, ◌<◌, [], 
 ghost use Rattle.std.specs.Prelude.{IfErr, MatchOption};
 ghost use Rattle.server_rules.specs.Ground.{Ground};
 ghost use Rattle.server_rules.specs.Grounds.{IsRight};
-ghost use Rattle.server_rules.specs.LoneTurns.{Lone, hears, goes, drains, accepted, lone_step};
+ghost use Rattle.server_rules.specs.LoneTurns.{LoneTenant, hears, goes, drains, accepted, lone_step};
 ghost use Rattle.server_rules.specs.Inside.Wires.{wire_at};
-ghost use Rattle.server_rules.specs.Inside.Turned.{Left, Accepted, IsRefused};
+ghost use Rattle.server_rules.specs.Inside.Turned.{Left, Accepted, IsRefusedTurn};
 ghost use Rattle.server_rules.specs.Inside.Rounds.{IsEnough};
 
 use crate::actor::Actor;
@@ -34,22 +34,22 @@ pub trait Core {
     /// How much is left to do: the steps, and the replies that wait.
     ghost left: { Self → Left };
     /// The code stands for this tenant.
-    ghost stands: { Ground → Self → Lone → Type 0 };
+    ghost stands: { Ground → Self → LoneTenant → Type 0 };
 
     /// Hears the next piece of the stream.
     fn hear(&mut self, piece: &Bytes) -> Result<(), Refusal>
         ensures heard { OnOk result ((left self.old).steps ≡ (left self.new).steps + 1) }
         ensures refused { OnErr result ((left self.new).steps ≡ (left self.old).steps) }
-        ensures accepted { (g : Ground) (l : Lone) → IsRight g → stands g self.old l
+        ensures accepted { (g : Ground) (l : LoneTenant) → IsRight g → stands g self.old l
             → OnOk result (Accepted (stands g self.new) (lone_step g l (hears piece.now))) }
-        ensures as_it_was { (g : Ground) (l : Lone) → IsRight g → stands g self.old l
+        ensures as_it_was { (g : Ground) (l : LoneTenant) → IsRight g → stands g self.old l
             → IfErr result (λ why. why ≢ Refusal.NoMemory
-            → IsRefused why (lone_step g l (hears piece.now)) × stands g self.new l) };
+            → IsRefusedTurn why (lone_step g l (hears piece.now)) × stands g self.new l) };
 
     /// The actors of the next round, in their order. Those that have nothing to do may be left out.
     /// It fails only for want of memory.
     fn actors(&self, alloc: Global) -> Result<Vec<Actor>, AllocError>
-        ensures { (g : Ground) (l : Lone) → stands g self.now l
+        ensures { (g : Ground) (l : LoneTenant) → stands g self.now l
             → IfOk result (λ actors. IsEnough l actors.items) };
 
     /// Does what is next for the actor: begins a form, answers one ask or ends a form.
@@ -57,11 +57,11 @@ pub trait Core {
         ensures gone { OnOk result ((left self.old).steps ≡ (left self.new).steps + 1) }
         ensures refused { OnErr result ((left self.new).steps ≡ (left self.old).steps) }
         ensures held { result ≡ Err Refusal.Held → 0 < length (left self.old).outbox }
-        ensures accepted { (g : Ground) (l : Lone) → IsRight g → stands g self.old l
+        ensures accepted { (g : Ground) (l : LoneTenant) → IsRight g → stands g self.old l
             → OnOk result (Accepted (stands g self.new) (lone_step g l (goes actor))) }
-        ensures as_it_was { (g : Ground) (l : Lone) → IsRight g → stands g self.old l
+        ensures as_it_was { (g : Ground) (l : LoneTenant) → IsRight g → stands g self.old l
             → IfErr result (λ why. why ≢ Refusal.NoMemory
-            → IsRefused why (lone_step g l (goes actor)) × stands g self.new l) };
+            → IsRefusedTurn why (lone_step g l (goes actor)) × stands g self.new l) };
 
     /// Takes the oldest reply out. It takes no memory.
     fn drain(&mut self) -> Option<Vec<u8>>
@@ -69,13 +69,13 @@ pub trait Core {
         ensures oldest { MatchOption result
             (((left self.old).outbox ≡ []) × ((left self.new).outbox ≡ []))
             (λ reply. (left self.old).outbox ≡ reply.items ∷ (left self.new).outbox) }
-        ensures drained { (g : Ground) (l : Lone) → stands g self.old l → MatchOption result
-            (IsRefused Refusal.Idle (lone_step g l drains) × stands g self.new l)
-            (λ reply. (after : Lone) × (lone_step g l drains ≡ accepted after reply.items)
+        ensures drained { (g : Ground) (l : LoneTenant) → stands g self.old l → MatchOption result
+            (IsRefusedTurn Refusal.Idle (lone_step g l drains) × stands g self.new l)
+            (λ reply. (after : LoneTenant) × (lone_step g l drains ≡ accepted after reply.items)
             × stands g self.new after) };
 
     /// What has come of the stream. It takes no memory.
     fn wire(&self) -> Wire
-        ensures { (g : Ground) (l : Lone) → stands g self.now l
-            → result ≡ wire_at (g.readings.stream l.quiet.heard).ending };
+        ensures { (g : Ground) (l : LoneTenant) → stands g self.now l
+            → result ≡ wire_at (g.readings.stream l.state.heard).ending };
 }

@@ -1,6 +1,6 @@
 // Readers and writers that fail, at each of their calls in turn.
 ghost use Rattle.std.specs.Prelude.{◌≡◌, Some, None, false};
-ghost use Rattle.nrepl_pipe.specs.Failing.{Marks, read_fails, write_fails};
+ghost use Rattle.nrepl_pipe.specs.Failing.{MarksFailure, read_fails, write_fails};
 ghost use Rattle.nrepl_pipe.specs.Failing.{is_read_failed, is_write_failed};
 
 use crate::runners::{SUM, SUM_REPLIES, server};

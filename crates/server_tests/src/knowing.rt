@@ -3,7 +3,7 @@ ghost use Rattle.std.specs.Prelude.{◌≡◌};
 
 use crate::servers::fresh_config;
 use bytes::Bytes;
-use journal_book::{Beside, Book, Entry, PARTS, Places, Seat};
+use journal_book::{Beside, Book, JournalEntry, PARTS, Places, Seat};
 use knowing_book::{Finish, KnowingBook, Naming, Opened, Stage};
 use repl_core::{Step, StepAnswer};
 use server_rules::Actor;
@@ -72,7 +72,7 @@ fn expect_belief<L: Ledger, N: Naming>(
     rt: &impl Abort,
     alloc: Global,
     blank: Blank,
-    opened: Opened<Entry>,
+    opened: Opened<JournalEntry>,
 ) -> Result<(), Fail>
     requires name { blank.name ≡ L.name }
     requires parts { (blank.parts ≡ L.parts) × (blank.parts ≡ 5000001) }

@@ -14,19 +14,19 @@ use Rattle.ref_history.specs.RingHistories.{RingStands}
 use Rattle.ref_table.specs.Refs.{Refs, store_of, refs_after, with_ref}
 use Rattle.ref_table.specs.Standing.{TableStands}
 use Rattle.tenant_parts.specs.Serving.{RingRefTable}
-use Rattle.tenant_parts.specs.Sound.{IsSound}
+use Rattle.tenant_parts.specs.Sound.{IsSoundRef}
 use Rattle.tenant_parts.proofs.Serving.{refs_after-seen}
 use Rattle.shared_space.specs.Holding.{HoldsRefs}
 
 abbrev pub first_shared : Datum → Ref
 first_shared d = new_ref (record { stamp = 0; content = d }) 0 10
 
-all-added : (rs : List Ref) (r : Ref) → AllByRecursion IsSound rs → IsSound r
-    → AllByRecursion IsSound (rs ++ r ∷ [])
+all-added : (rs : List Ref) (r : Ref) → AllByRecursion IsSoundRef rs → IsSoundRef r
+    → AllByRecursion IsSoundRef (rs ++ r ∷ [])
 all-added [] r all it = (it, tt)
 all-added (x ∷ xs) r all it = (all.0, all-added xs r all.1 it)
 
-first-sound : (d : Datum) → IsSound (first_shared d)
+first-sound : (d : Datum) → IsSoundRef (first_shared d)
 first-sound d = record { kept = (omega arith); least = (omega arith); most = (omega arith); value = refl }
 
 pub holds-made : (rs : List Ref) (d : Datum) (table new : RingRefTable) (h : HoldsRefs table rs)

@@ -9,7 +9,7 @@ use Rattle.ref_history.specs.RingHistories.{RingStands}
 use Rattle.ref_table.specs.Refs.{Refs}
 use Rattle.ref_table.specs.Standing.{TableStands}
 use Rattle.tenant_parts.specs.Serving.{RingRefTable}
-use Rattle.tenant_parts.specs.Sound.{IsSound}
+use Rattle.tenant_parts.specs.Sound.{IsSoundRef}
 
 -- these refs are the shared ones, nothing was committed yet, and no tenant has refs
 pub record HoldsRefs (table : RingRefTable) (refs : List Ref) : Type 0 where
@@ -18,7 +18,7 @@ pub record HoldsRefs (table : RingRefTable) (refs : List Ref) : Type 0 where
   pub counter : all.counter ≡ 0
   pub common : all.owned shared ≡ refs
   pub none : (t : ℕ) → all.owned (tenant t) ≡ []
-  pub sound : AllByRecursion IsSound refs
+  pub sound : AllByRecursion IsSoundRef refs
 
 -- the names and the refs
 pub record HoldsShared (bound : Bindings) (table : RingRefTable) (s : SharedData) : Type 0 where

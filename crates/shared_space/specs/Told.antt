@@ -23,8 +23,8 @@ pub record TellerData : Type 0 where
 abbrev pub exchanges : TellerData → List Exchanged
 exchanges t = trace_view t.trace
 
-abbrev pub heard_by : TellerData → Heard
-heard_by t = record { trace = exchanges t; stopped = t.stopped }
+abbrev pub heard_of_teller : TellerData → Heard
+heard_of_teller t = record { trace = exchanges t; stopped = t.stopped }
 
 -- what is shared by then
 abbrev pub shared_so_far : TellerData → SharedData

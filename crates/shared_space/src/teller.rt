@@ -86,9 +86,9 @@ impl Teller {
 }
 
 impl Refs for Teller {
-    ghost use Rattle.shared_space.specs.Told.{heard_by};
+    ghost use Rattle.shared_space.specs.Told.{heard_of_teller};
 
-    ghost heard = { heard_by };
+    ghost heard = { heard_of_teller };
 
     /// Answers, and notes what was asked and answered. It stops at what is not for the text to ask.
     fn ask(&mut self, alloc: Global, ask: Ask) -> Result<Answer, Stop> {

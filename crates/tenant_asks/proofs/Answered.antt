@@ -7,8 +7,8 @@ use Rattle.server_rules.specs.Cells.{CellsData, SenderData, with_sends_if}
 use Rattle.ref_table.specs.Performed.{Performed, tells}
 use Rattle.server_rules.specs.Ground.{Ground}
 use Rattle.ref_table.specs.Store.{Store}
-use Rattle.server_rules.specs.Tenant.{Quiet, seat_of}
-use Rattle.server_rules.specs.Asking.{answer_to, quiet_after, call_of, is_allowed}
+use Rattle.server_rules.specs.Tenant.{TenantState, seat_of}
+use Rattle.server_rules.specs.Asking.{answer_to, state_after, call_of, is_allowed}
 use Rattle.server_rules.specs.declared.actor.Actor.{Actor}
 use Rattle.ref_history.specs.RingHistories.{RingStands}
 use Rattle.ref_table.specs.Refs.{Refs, refs_after}
@@ -22,20 +22,20 @@ use Rattle.name_spaces.specs.Inside.Seen.{namespaces_of, shared_in}
 use Rattle.tenant_parts.specs.Replies.{waiting_bytes}
 use Rattle.tenant_asks.specs.Cells.{cells_data}
 use Rattle.tenant_parts.specs.Serving.{RingRefTable, ServesWithAttempts, PerformsCall}
-use Rattle.tenant_parts.specs.Thrice.{thrice_view, told_answer}
+use Rattle.tenant_parts.specs.AnswerCopies.{copies_view, told_answer}
 use Rattle.tenant_parts.specs.declared.attempts.Attempts.{Attempts}
-use Rattle.tenant_asks.specs.declared.memory.Memory.{Memory}
-use Rattle.tenant_parts.specs.declared.thrice.Thrice.{Thrice}
+use Rattle.tenant_asks.specs.declared.memory.Remembered.{Remembered}
+use Rattle.tenant_parts.specs.declared.copies.AnswerCopies.{AnswerCopies}
 use Rattle.tenant_asks.proofs.Answering.{refs-told, allowed-may}
 use Rattle.tenant_parts.proofs.Calls.{untold-stays}
 use Rattle.tenant_parts.proofs.Serving.{refs_after-seen, holds-refs_after}
 
 -- an ask of names, of atoms or of agents changes none of them
-pub alone-answered : (g : Ground) (t : ℕ) (a : Actor) (sender : SenderData) (q : Quiet) (ask : AskData)
-    (s : Store) (r : Refs) (m : Memory) (table : RingRefTable) (attempts : Attempts)
+pub alone-answered : (g : Ground) (t : ℕ) (a : Actor) (sender : SenderData) (q : TenantState) (ask : AskData)
+    (s : Store) (r : Refs) (m : Remembered) (table : RingRefTable) (attempts : Attempts)
     (answer : AnswerData) → ServesWithAttempts table attempts s r
     → performed s (call_of (seat_of a) ask) ≡ tells done s
-    → answer ≡ answer_to g a q ask done → Remembers g t m (quiet_after sender ask answer q)
+    → answer ≡ answer_to g a q ask done → Remembers g t m (state_after sender ask answer q)
     → Answers g t a sender q ask (performed s (call_of (seat_of a) ask)) m table attempts r answer
 alone-answered g t a sender q ask s r m table attempts answer holds alone is remembers =
     let P : Performed Store → Type 0 = λ p. Answers g t a sender q ask p m table attempts r answer in
@@ -63,12 +63,12 @@ holds-untold new old attempts later s r call holds comes =
     }
 
 -- what a memory has of the tenant, once it has these atoms and agents
-abbrev pub with_cells : CellsData → Quiet → Quiet
+abbrev pub with_cells : CellsData → TenantState → TenantState
 with_cells c q = record q { cells = c }
 
-pub refs-answered : {E : Type 0} (g : Ground) (t : ℕ) (a : Actor) (sender : SenderData) (q : Quiet)
-    (ask : AskData) (s : Store) (r : Refs) (m : Memory) (new old : RingRefTable)
-    (attempts later : Attempts) (result : Result (Option Thrice) E)
+pub refs-answered : {E : Type 0} (g : Ground) (t : ℕ) (a : Actor) (sender : SenderData) (q : TenantState)
+    (ask : AskData) (s : Store) (r : Refs) (m : Remembered) (new old : RingRefTable)
+    (attempts later : Attempts) (result : Result (Option AnswerCopies) E)
     → ServesWithAttempts old attempts s r → is_of_names ask ≡ false → is_of_cells ask ≡ false
     → is_allowed ask q.cells ≡ true
     → IfOk result (λ it. Remembers g t m
@@ -77,7 +77,7 @@ pub refs-answered : {E : Type 0} (g : Ground) (t : ℕ) (a : Actor) (sender : Se
     → IfOk result (λ it. MatchOption it
     (((performed s (call_of (seat_of a) ask)).told ≡ None) × Remembers g t m q × ServesWithAttempts new later s r)
     (λ answer. Answers g t a sender q ask (performed s (call_of (seat_of a) ask)) m new later r
-    (thrice_view answer)))
+    (copies_view answer)))
 refs-answered g t a sender q ask s r m new old attempts later (Err e) holds names cells allowed remembers comes = tt
 refs-answered g t a sender q ask s r m new old attempts later (Ok None) holds names cells allowed remembers comes = (
   sym comes.called.told,
@@ -85,9 +85,9 @@ refs-answered g t a sender q ask s r m new old attempts later (Ok None) holds na
   holds-untold new old attempts later s r (call_of (seat_of a) ask) holds comes,
 )
 refs-answered g t a sender q ask s r m new old attempts later (Ok (Some it)) holds names cells allowed remembers comes =
-    let still = refs-told g a sender q ask (thrice_view it) names cells in
+    let still = refs-told g a sender q ask (copies_view it) names cells in
     record {
-      told = thrice_view it;
+      told = copies_view it;
       is_told = sym comes.called.told;
       is = still.is;
       remembers = record {
@@ -98,12 +98,12 @@ refs-answered g t a sender q ask s r m new old attempts later (Ok (Some it)) hol
         cells = remembers.cells ∙ still.cells;
         replies = remembers.replies;
       };
-      holds = holds-refs_after new old attempts later s r (Some (thrice_view it))
+      holds = holds-refs_after new old attempts later s r (Some (copies_view it))
           (call_of (seat_of a) ask) holds (allowed-may (seat_of a) ask q allowed) comes;
     }
 
 -- a memory that has other atoms and agents alone
-pub remembers-cells : {E A : Type 0} (g : Ground) (t : ℕ) (m n : Memory) (q : Quiet) (result : Result A E)
+pub remembers-cells : {E A : Type 0} (g : Ground) (t : ℕ) (m n : Remembered) (q : TenantState) (result : Result A E)
     (f : A → CellsData → CellsData) → Remembers g t m q
     → (n.sessions ≡ m.sessions) × (n.bare ≡ m.bare) × (n.spaces ≡ m.spaces) × (n.outbox ≡ m.outbox)
     → IfOk result (λ it. cells_data n.cells ≡ f it (cells_data m.cells))

@@ -9,15 +9,15 @@ use Rattle.repl_asks.specs.Exchange.{AskData, AnswerData}
 use Rattle.ref_table.specs.Calls.{Call, nothing, inside, gives_up, performed, given_up, told_inside}
 use Rattle.ref_table.specs.Calls.{told_outside}
 use Rattle.server_rules.specs.Ground.{Ground}
-use Rattle.server_rules.specs.Request.{Hand, Run}
+use Rattle.server_rules.specs.Request.{WorkInHand, Run}
 use Rattle.ref_table.specs.Store.{Store, left_attempt}
-use Rattle.server_rules.specs.Tenant.{ActorData, Quiet, seat_of}
+use Rattle.server_rules.specs.Tenant.{ActorData, TenantState, seat_of}
 use Rattle.ref_table.specs.Numbered as numbered
 use Rattle.ref_table.specs.Numbered.{with_part}
 use Rattle.ref_table.specs.Performed.{as_was, tells}
 use Rattle.server_rules.specs.Asking.{asked_of, asked_running, asked_allowed, ask_outcome, may_ask}
-use Rattle.server_rules.specs.Asking.{session_of, send_call}
-use Rattle.server_rules.specs.Asking.{answer_to, spaces_after, quiet_after}
+use Rattle.server_rules.specs.Asking.{session_number, may_send_call}
+use Rattle.server_rules.specs.Asking.{answer_to, spaces_after, state_after}
 use Rattle.server_rules.specs.Asking.{with_recorded_answer, call_of, sender_of}
 use Rattle.server_rules.specs.Asking.{is_allowed, when_told}
 use Rattle.server_rules.specs.Cells.{CellsData, cell_answer, SenderData, is_yes, with_sends_if}
@@ -27,7 +27,7 @@ use Rattle.server_rules.specs.Plan.{Plan, refuses, leaves, with_step_spent, ask_
 use Rattle.server_rules.specs.declared.actor.Actor.{Actor}
 use Rattle.server_rules.specs.declared.refusal.Refusal.{Refusal}
 use Rattle.server_rules.specs.DeedResult.{carried_out}
-use Rattle.tenant_asks.specs.declared.memory.Memory.{Memory}
+use Rattle.tenant_asks.specs.declared.memory.Remembered.{Remembered}
 use Rattle.tenant_asks.specs.Memories.{Remembers}
 use Rattle.tenant_asks.specs.Acting.{AcceptsOutcome, RefusesOutcome, is_accepted}
 use Rattle.tenant_asks.specs.Asking.{is_of_names, is_of_cells, answered_plan, exchange_from, run_with}
@@ -70,8 +70,8 @@ stands-inside : (s : Store) (found : Option ℕ) → is_some (told_inside found)
 stands-inside s None told = absurd (true≢false (sym told))
 stands-inside s (Some point) told = refl
 
-sends-told : (seat : ℕ) (s : Store) → is_some (performed s (send_call seat)).told ≡ true
-    → performed s (send_call seat) ≡ tells exchange.done s
+sends-told : (seat : ℕ) (s : Store) → is_some (performed s (may_send_call seat)).told ≡ true
+    → performed s (may_send_call seat) ≡ tells exchange.done s
 sends-told seat s told = by (seat == 0) told where
   call_by : Bool → Call
   call_by b = if b then nothing else inside seat
@@ -101,7 +101,7 @@ cells-told seat (exchange.await ns) s cells told =
 cells-told seat _ s cells told = absurd (true≢false (sym cells))
 
 -- no namespace changes with an atom or an agent
-pub cells-spaces : (ask : AskData) (q : Quiet) → is_of_cells ask ≡ true
+pub cells-spaces : (ask : AskData) (q : TenantState) → is_of_cells ask ≡ true
     → q.spaces ≡ spaces_after ask q.spaces
 cells-spaces (exchange.new_atom d) q cells = refl
 cells-spaces (exchange.read_atom n) q cells = refl
@@ -116,7 +116,7 @@ cells-spaces (exchange.may_send s) q cells = refl
 cells-spaces (exchange.await ns) q cells = refl
 cells-spaces _ q cells = absurd (true≢false (sym cells))
 
-pub cells-answer : (g : Ground) (a : Actor) (q : Quiet) (ask : AskData) (c : CellsData)
+pub cells-answer : (g : Ground) (a : Actor) (q : TenantState) (ask : AskData) (c : CellsData)
     (told : AnswerData) → is_of_cells ask ≡ true → c ≡ q.cells
     → cell_answer ask c told ≡ answer_to g a q ask told
 cells-answer g a q (exchange.new_atom d) c told cells same =
@@ -143,7 +143,7 @@ cells-answer g a q (exchange.await ns) c told cells same =
 cells-answer g a q _ c told cells same = absurd (true≢false (sym cells))
 
 -- of refs the answer is what they told, no namespace changes, and a commit sends
-pub record AreRefs (g : Ground) (a : Actor) (sender : SenderData) (q : Quiet) (ask : AskData)
+pub record AreRefs (g : Ground) (a : Actor) (sender : SenderData) (q : TenantState) (ask : AskData)
     (told : AnswerData) : Type 0 where
   pub is : told ≡ answer_to g a q ask told
   pub spaces : q.spaces ≡ spaces_after ask q.spaces
@@ -154,7 +154,7 @@ nothing-sent : (b : Bool) (sender : SenderData) (c : CellsData) → with_sends_i
 nothing-sent true sender c = refl
 nothing-sent false sender c = refl
 
-pub refs-told : (g : Ground) (a : Actor) (sender : SenderData) (q : Quiet) (ask : AskData)
+pub refs-told : (g : Ground) (a : Actor) (sender : SenderData) (q : TenantState) (ask : AskData)
     (told : AnswerData) → is_of_names ask ≡ false → is_of_cells ask ≡ false
     → AreRefs g a sender q ask told
 refs-told g a sender q (exchange.resolve namespace symbol) told names cells = absurd (true≢false names)
@@ -188,7 +188,7 @@ refs-told g a sender q (exchange.may_send s) told names cells = absurd (true≢f
 refs-told g a sender q (exchange.await ns) told names cells = absurd (true≢false cells)
 
 -- the bounds of what is allowed are numbers of the language
-pub allowed-may : (seat : ℕ) (ask : AskData) (q : Quiet) → is_allowed ask q.cells ≡ true
+pub allowed-may : (seat : ℕ) (ask : AskData) (q : TenantState) → is_allowed ask q.cells ≡ true
     → MayBe (call_of seat ask)
 allowed-may seat (exchange.resolve namespace symbol) q allowed = tt
 allowed-may seat (exchange.define namespace name binding) q allowed = tt
@@ -226,15 +226,15 @@ allowed-so ask same says is = sym (ap (is_allowed ask) same) ∙ sym says ∙ is
 
 -- An answer that is kept
 
-pub acted-ask_outcome : (g : Ground) (t : ℕ) (m : Memory) (a : Actor) (actor new : ActorData) (h : Hand)
-    (run : Run) (ask : AskData) (q : Quiet) (told kept given : AnswerData)
+pub acted-ask_outcome : (g : Ground) (t : ℕ) (m : Remembered) (a : Actor) (actor new : ActorData) (h : WorkInHand)
+    (run : Run) (ask : AskData) (q : TenantState) (told kept given : AnswerData)
     → actor.hand ≡ Some h → h.running ≡ Some run
     → new ≡ with_exchange (exchange_from ask kept) actor → kept ≡ answer_to g a q ask told
-    → given ≡ kept → Remembers g t m (quiet_after (sender_of a h) ask kept q)
+    → given ≡ kept → Remembers g t m (state_after (sender_of a h) ask kept q)
     → AcceptsOutcome g t a q (ask_outcome g a actor h run ask q told) m new (ask_answered given)
 acted-ask_outcome g t m a actor new h run ask q told kept given hand running put is same r =
     let answer = answer_to g a q ask told in
-    let later = quiet_after (sender_of a h) ask answer q in
+    let later = state_after (sender_of a h) ask answer q in
     let after = with_recorded_answer a actor h run ask answer later in
     record {
       after = after;
@@ -260,11 +260,11 @@ acted-ask_outcome g t m a actor new h run ask q told kept given hand running put
 
 -- The plan of an ask of a form that runs
 
-abbrev pub allowed_by : Ground → Actor → ActorData → Hand → Run → AskData → Quiet → Bool → Plan
+abbrev pub allowed_by : Ground → Actor → ActorData → WorkInHand → Run → AskData → TenantState → Bool → Plan
 allowed_by g a actor h run ask q b =
     if b then asked_allowed g a actor h run ask q else quietly (refuses Refusal.Idle)
 
-asked-by : (g : Ground) (a : Actor) (actor : ActorData) (ask : AskData) (q : Quiet) (h : Hand)
+asked-by : (g : Ground) (a : Actor) (actor : ActorData) (ask : AskData) (q : TenantState) (h : WorkInHand)
     (run : Run) (b : Bool) → actor.hand ≡ Some h → h.running ≡ Some run
     → (may_ask a ask && is_allowed ask q.cells) ≡ b
     → asked_of g a actor ask q actor.hand ≡ allowed_by g a actor h run ask q b
@@ -285,7 +285,7 @@ first-not : (b c : Bool) → b ≡ false → (b && c) ≡ false
 first-not true c is = absurd (true≢false is)
 first-not false c is = refl
 
-pub runs-so : (g : Ground) (a : Actor) (actor : ActorData) (ask : AskData) (q : Quiet) (h : Hand)
+pub runs-so : (g : Ground) (a : Actor) (actor : ActorData) (ask : AskData) (q : TenantState) (h : WorkInHand)
     (run : Run) → actor.hand ≡ Some h → h.running ≡ Some run → may_ask a ask ≡ true
     → is_allowed ask q.cells ≡ true
     → asked_of g a actor ask q actor.hand ≡ asked_allowed g a actor h run ask q
@@ -293,59 +293,59 @@ runs-so g a actor ask q h run hand running may allowed =
     asked-by g a actor ask q h run true hand running
     (both-so (may_ask a ask) (is_allowed ask q.cells) may allowed)
 
-pub asked-forbidden : (g : Ground) (a : Actor) (actor : ActorData) (ask : AskData) (q : Quiet)
-    (h : Hand) (run : Run) → actor.hand ≡ Some h → h.running ≡ Some run
+pub asked-forbidden : (g : Ground) (a : Actor) (actor : ActorData) (ask : AskData) (q : TenantState)
+    (h : WorkInHand) (run : Run) → actor.hand ≡ Some h → h.running ≡ Some run
     → is_allowed ask q.cells ≡ false
     → asked_of g a actor ask q actor.hand ≡ quietly (refuses Refusal.Idle)
 asked-forbidden g a actor ask q h run hand running forbidden =
     asked-by g a actor ask q h run false hand running
     (second-not (may_ask a ask) (is_allowed ask q.cells) forbidden)
 
-pub asked-unfit : (g : Ground) (a : Actor) (actor : ActorData) (ask : AskData) (q : Quiet)
-    (h : Hand) (run : Run) → actor.hand ≡ Some h → h.running ≡ Some run → may_ask a ask ≡ false
+pub asked-unfit : (g : Ground) (a : Actor) (actor : ActorData) (ask : AskData) (q : TenantState)
+    (h : WorkInHand) (run : Run) → actor.hand ≡ Some h → h.running ≡ Some run → may_ask a ask ≡ false
     → asked_of g a actor ask q actor.hand ≡ quietly (refuses Refusal.Idle)
 asked-unfit g a actor ask q h run hand running unfit =
     asked-by g a actor ask q h run false hand running
     (first-not (may_ask a ask) (is_allowed ask q.cells) unfit)
 
 -- of a session that was closed
-abbrev pub given_up_plan : Actor → Hand → AskData → Quiet → Plan
+abbrev pub given_up_plan : Actor → WorkInHand → AskData → TenantState → Plan
 given_up_plan a h ask q = record {
   call = gives_up (seat_of a) (call_of (seat_of a) ask);
   next = λ told. when_told told (λ _. interrupted_in a h q);
 }
 
 -- of one that is open
-abbrev pub open_plan : Ground → Actor → ActorData → Hand → Run → AskData → Quiet → Bool → Plan
+abbrev pub open_plan : Ground → Actor → ActorData → WorkInHand → Run → AskData → TenantState → Bool → Plan
 open_plan g a actor h run ask q waits = record {
   call = call_of (seat_of a) ask;
   next = λ told. when_told told
       (λ t. if waits then refuses Refusal.Waiting else ask_outcome g a actor h run ask q t);
 }
 
-open-so : (g : Ground) (a : Actor) (actor : ActorData) (ask : AskData) (q : Quiet) (h : Hand)
+open-so : (g : Ground) (a : Actor) (actor : ActorData) (ask : AskData) (q : TenantState) (h : WorkInHand)
     (run : Run) (waits : Bool) → actor.hand ≡ Some h → h.running ≡ Some run
     → may_ask a ask ≡ true → is_allowed ask q.cells ≡ true → actor.is_closed ≡ false
-    → must_wait (session_of a) ask q.cells ≡ waits
+    → must_wait (session_number a) ask q.cells ≡ waits
     → open_plan g a actor h run ask q waits ≡ asked_of g a actor ask q actor.hand
 open-so g a actor ask q h run waits hand running may allowed open_still is = sym (
     runs-so g a actor ask q h run hand running may allowed
     ∙ ap (λ (b : Bool). if b then given_up_plan a h ask q
-    else open_plan g a actor h run ask q (must_wait (session_of a) ask q.cells)) open_still
+    else open_plan g a actor h run ask q (must_wait (session_number a) ask q.cells)) open_still
     ∙ ap (open_plan g a actor h run ask q) is)
 
-pub asked-open : (g : Ground) (a : Actor) (actor : ActorData) (ask : AskData) (q : Quiet) (h : Hand)
+pub asked-open : (g : Ground) (a : Actor) (actor : ActorData) (ask : AskData) (q : TenantState) (h : WorkInHand)
     (run : Run) → actor.hand ≡ Some h → h.running ≡ Some run → may_ask a ask ≡ true
     → is_allowed ask q.cells ≡ true → actor.is_closed ≡ false
-    → must_wait (session_of a) ask q.cells ≡ false
+    → must_wait (session_number a) ask q.cells ≡ false
     → answered_plan g a actor h run ask q ≡ asked_of g a actor ask q actor.hand
 asked-open g a actor ask q h run hand running may allowed open_still met =
     open-so g a actor ask q h run false hand running may allowed open_still met
 
 pub asked-waiting : (g : Ground) (s : Store) (a : Actor) (actor : ActorData) (ask : AskData)
-    (q : Quiet) (h : Hand) (run : Run) → actor.hand ≡ Some h → h.running ≡ Some run
+    (q : TenantState) (h : WorkInHand) (run : Run) → actor.hand ≡ Some h → h.running ≡ Some run
     → may_ask a ask ≡ true → is_allowed ask q.cells ≡ true → actor.is_closed ≡ false
-    → must_wait (session_of a) ask q.cells ≡ true
+    → must_wait (session_number a) ask q.cells ≡ true
     → (carried_out s (asked_of g a actor ask q actor.hand)).outcome
     ≡ refuses (why_waiting (is_some (performed s (call_of (seat_of a) ask)).told))
 asked-waiting g s a actor ask q h run hand running may allowed open_still waits =
@@ -359,14 +359,14 @@ asked-waiting g s a actor ask q h run hand running may allowed open_still waits 
     by None = refl
     by (Some told) = refl
 
-pub asked-closed : (g : Ground) (a : Actor) (actor : ActorData) (ask : AskData) (q : Quiet) (h : Hand)
+pub asked-closed : (g : Ground) (a : Actor) (actor : ActorData) (ask : AskData) (q : TenantState) (h : WorkInHand)
     (run : Run) → actor.hand ≡ Some h → h.running ≡ Some run → may_ask a ask ≡ true
     → is_allowed ask q.cells ≡ true → actor.is_closed ≡ true
     → given_up_plan a h ask q ≡ asked_of g a actor ask q actor.hand
 asked-closed g a actor ask q h run hand running may allowed closed = sym (
     runs-so g a actor ask q h run hand running may allowed
     ∙ ap (λ (b : Bool). if b then given_up_plan a h ask q
-    else open_plan g a actor h run ask q (must_wait (session_of a) ask q.cells)) closed)
+    else open_plan g a actor h run ask q (must_wait (session_number a) ask q.cells)) closed)
 
 -- what the code says of an await, where it remembers these agents
 pub waits-so : {b v : Bool} (session : Option ℕ) (ask : AskData) {c d : CellsData} → c ≡ d
@@ -375,7 +375,7 @@ waits-so session ask same says is = sym (ap (must_wait session ask) same) ∙ sy
 
 -- What giving up comes to
 
-pub given-told : (s : Store) (a : Actor) (h : Hand) (ask : AskData) (q : Quiet)
+pub given-told : (s : Store) (a : Actor) (h : WorkInHand) (ask : AskData) (q : TenantState)
     → is_some (performed s (call_of (seat_of a) ask)).told ≡ true
     → ((carried_out s (given_up_plan a h ask q)).outcome ≡ interrupted_in a h q)
     × ((carried_out s (given_up_plan a h ask q)).store ≡ left_attempt (seat_of a) s)
@@ -386,30 +386,30 @@ given-told s a h ask q some = by (performed s (call_of (seat_of a) ask)).told so
   by None some = absurd (true≢false (sym some))
   by (Some answer) some = (refl, refl)
 
-pub given-untold : (s : Store) (a : Actor) (h : Hand) (ask : AskData) (q : Quiet)
+pub given-untold : (s : Store) (a : Actor) (h : WorkInHand) (ask : AskData) (q : TenantState)
     → (performed s (call_of (seat_of a) ask)).told ≡ None
     → (carried_out s (given_up_plan a h ask q)).outcome ≡ refuses Refusal.Idle
 given-untold s a h ask q none =
     ap (λ o. when_told (given_up (seat_of a) s o).told (λ _. interrupted_in a h q)) none
 
 -- what an answer that was told comes to
-pub ask_outcome-told : (g : Ground) (s : Store) (a : Actor) (actor : ActorData) (h : Hand) (run : Run)
-    (ask : AskData) (q : Quiet) (told : AnswerData)
+pub ask_outcome-told : (g : Ground) (s : Store) (a : Actor) (actor : ActorData) (h : WorkInHand) (run : Run)
+    (ask : AskData) (q : TenantState) (told : AnswerData)
     → (performed s (call_of (seat_of a) ask)).told ≡ Some told
     → ask_outcome g a actor h run ask q told
     ≡ (carried_out s (answered_plan g a actor h run ask q)).outcome
 ask_outcome-told g s a actor h run ask q told is =
     sym (ap (λ o. when_told o (ask_outcome g a actor h run ask q)) is)
 
-pub answered-untold : (g : Ground) (s : Store) (a : Actor) (actor : ActorData) (h : Hand) (run : Run)
-    (ask : AskData) (q : Quiet) → (performed s (call_of (seat_of a) ask)).told ≡ None
+pub answered-untold : (g : Ground) (s : Store) (a : Actor) (actor : ActorData) (h : WorkInHand) (run : Run)
+    (ask : AskData) (q : TenantState) → (performed s (call_of (seat_of a) ask)).told ≡ None
     → (carried_out s (answered_plan g a actor h run ask q)).outcome ≡ refuses Refusal.Idle
 answered-untold g s a actor h run ask q none =
     ap (λ o. when_told o (ask_outcome g a actor h run ask q)) none
 
 -- where something is told, the rules accept the ask
-pub answered-accepted : (g : Ground) (s : Store) (a : Actor) (actor : ActorData) (h : Hand) (run : Run)
-    (ask : AskData) (q : Quiet) → is_some (performed s (call_of (seat_of a) ask)).told ≡ true
+pub answered-accepted : (g : Ground) (s : Store) (a : Actor) (actor : ActorData) (h : WorkInHand) (run : Run)
+    (ask : AskData) (q : TenantState) → is_some (performed s (call_of (seat_of a) ask)).told ≡ true
     → is_accepted (carried_out s (answered_plan g a actor h run ask q)).outcome ≡ true
 answered-accepted g s a actor h run ask q some =
     by (performed s (call_of (seat_of a) ask)).told some
@@ -427,12 +427,12 @@ pub refused-so : {A : Type 0} (why so : Refusal)
     → ◌≡◌ {A = Result A Refusal} (Err why) (Err so) → why ≡ so
 refused-so why so same = cc
 
-pub held-so : (x y : Hand) → ◌≡◌ {A = Option Hand} (Some x) (Some y) → x ≡ y
+pub held-so : (x y : WorkInHand) → ◌≡◌ {A = Option WorkInHand} (Some x) (Some y) → x ≡ y
 held-so x y same = cc
 
 -- an ask is refused so for which there was no memory
-pub declined-without : (g : Ground) (s : Store) (a : Actor) (actor : ActorData) (h : Hand) (run : Run)
-    (ask : AskData) (q : Quiet) (m : Memory) (why : Refusal)
+pub declined-without : (g : Ground) (s : Store) (a : Actor) (actor : ActorData) (h : WorkInHand) (run : Run)
+    (ask : AskData) (q : TenantState) (m : Remembered) (why : Refusal)
     → (why ≢ Refusal.NoMemory → (why ≡ Refusal.Idle)
     × ((performed s (call_of (seat_of a) ask)).told ≡ None))
     → Remembers g s.tenant m q
@@ -451,8 +451,8 @@ stays-memory (Ok x) T M H never m h = tt
 stays-memory (Err e) T M H is m h = ((λ ne. absurd (ne is)), m, h)
 
 -- giving up is refused where nothing would be told
-pub given-declined : {X : Type 0} (g : Ground) (t : ℕ) (s : Store) (a : Actor) (h : Hand)
-    (ask : AskData) (q : Quiet) (p : Plan) (m : Memory) (why : Refusal) (H : Type 0)
+pub given-declined : {X : Type 0} (g : Ground) (t : ℕ) (s : Store) (a : Actor) (h : WorkInHand)
+    (ask : AskData) (q : TenantState) (p : Plan) (m : Remembered) (why : Refusal) (H : Type 0)
     (r : Result X Refusal) → given_up_plan a h ask q ≡ p → IsErrAnd r (λ e. e ≡ why)
     → (why ≢ Refusal.NoMemory → (why ≡ Refusal.Idle)
     × ((performed s (call_of (seat_of a) ask)).told ≡ None))

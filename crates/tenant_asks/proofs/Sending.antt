@@ -9,7 +9,7 @@ use Rattle.server_rules.specs.Cells.{CellsData, SenderData, action_from, with_se
 use Rattle.server_rules.specs.Cells.{with_agents, sends_by, stays_inside, action_sends}
 use Rattle.tenant_asks.specs.Sends.{outgoing_in}
 use Rattle.tenant_asks.specs.Sends.{OutgoingData, all_sent, all_sent_if, outgoing_from, sent_if}
-use Rattle.tenant_asks.specs.Sends.{listed}
+use Rattle.tenant_asks.specs.Sends.{sends_listed}
 
 -- one sending
 pub sent-cells : (b : Bool) (sender : SenderData) (s : SendingData) (c : CellsData)
@@ -35,14 +35,14 @@ settled false sender sends c = refl
 -- what one ask may send waits behind what those before it may
 pub sent-step : (sender : SenderData) (before : List OutgoingData) (found : Option SendingData)
     (inside : Bool) (x : Exchanged) (xs : List Exchanged)
-    → listed found ≡ sends_by inside x.ask x.answer
-    → (before ++ map (outgoing_from sender) (listed found))
+    → sends_listed found ≡ sends_by inside x.ask x.answer
+    → (before ++ map (outgoing_from sender) (sends_listed found))
     ++ outgoing_in sender (stays_inside inside x.ask x.answer) xs
     ≡ before ++ outgoing_in sender inside (x ∷ xs)
 sent-step sender before found inside x xs is =
     let f : SendingData → OutgoingData = outgoing_from sender in
     let later = stays_inside inside x.ask x.answer in
-    append_assoc before (map f (listed found)) (outgoing_in sender later xs)
+    append_assoc before (map f (sends_listed found)) (outgoing_in sender later xs)
     ∙ ap (λ ys. before ++ (map f ys ++ outgoing_in sender later xs)) is
     ∙ ap (λ ys. before ++ ys)
     (sym (map-append f (sends_by inside x.ask x.answer) (action_sends later xs)))

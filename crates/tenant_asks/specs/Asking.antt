@@ -7,9 +7,9 @@ use Rattle.ref_table.specs.Performed.{Performed}
 use Rattle.ref_table.specs.Store.{Store}
 use Rattle.server_rules.specs.Cells.{SenderData}
 use Rattle.server_rules.specs.Ground.{Ground}
-use Rattle.server_rules.specs.Request.{Hand, Run}
-use Rattle.server_rules.specs.Tenant.{ActorData, Quiet, seat_of}
-use Rattle.server_rules.specs.Asking.{answer_to, quiet_after, ask_outcome, call_of, when_told}
+use Rattle.server_rules.specs.Request.{WorkInHand, Run}
+use Rattle.server_rules.specs.Tenant.{ActorData, TenantState, seat_of}
+use Rattle.server_rules.specs.Asking.{answer_to, state_after, ask_outcome, call_of, when_told}
 use Rattle.server_rules.specs.Plan.{Plan}
 use Rattle.server_rules.specs.declared.actor.Actor.{Actor}
 use Rattle.server_rules.specs.declared.refusal.Refusal.{Refusal}
@@ -17,7 +17,7 @@ use Rattle.ref_table.specs.Refs.{Refs, refs_after}
 use Rattle.tenant_asks.specs.Memories.{Remembers}
 use Rattle.tenant_parts.specs.Serving.{RingRefTable, ServesWithAttempts}
 use Rattle.tenant_parts.specs.declared.attempts.Attempts.{Attempts}
-use Rattle.tenant_asks.specs.declared.memory.Memory.{Memory}
+use Rattle.tenant_asks.specs.declared.memory.Remembered.{Remembered}
 
 -- the ask is one of names
 abbrev pub is_of_names : AskData → Bool
@@ -42,7 +42,7 @@ is_of_cells (exchange.await ns) = true
 is_of_cells _ = false
 
 -- the plan of an ask that breaks no rule of its own and has not to wait, of a session that is open
-abbrev pub answered_plan : Ground → Actor → ActorData → Hand → Run → AskData → Quiet → Plan
+abbrev pub answered_plan : Ground → Actor → ActorData → WorkInHand → Run → AskData → TenantState → Plan
 answered_plan g a actor h run ask q = record {
   call = call_of (seat_of a) ask;
   next = λ told. when_told told (ask_outcome g a actor h run ask q);
@@ -53,13 +53,13 @@ abbrev pub why_waiting : Bool → Refusal
 why_waiting told = if told then Refusal.Waiting else Refusal.Idle
 
 -- the refs told something, of which this answer is made, and all is as the rules leave it
-pub record Answers (g : Ground) (t : ℕ) (a : Actor) (sender : SenderData) (q : Quiet) (ask : AskData)
-    (p : Performed Store) (m : Memory) (table : RingRefTable) (attempts : Attempts) (r : Refs)
+pub record Answers (g : Ground) (t : ℕ) (a : Actor) (sender : SenderData) (q : TenantState) (ask : AskData)
+    (p : Performed Store) (m : Remembered) (table : RingRefTable) (attempts : Attempts) (r : Refs)
     (answer : AnswerData) : Type 0 where
   pub told : AnswerData
   pub is_told : p.told ≡ Some told
   pub is : answer ≡ answer_to g a q ask told
-  pub remembers : Remembers g t m (quiet_after sender ask answer q)
+  pub remembers : Remembers g t m (state_after sender ask answer q)
   pub holds : ServesWithAttempts table attempts p.store (refs_after p.store r)
 
 abbrev pub exchange_from : AskData → AnswerData → Exchanged
@@ -68,7 +68,7 @@ exchange_from ask answer = record { ask = ask; answer = answer }
 abbrev pub run_with : Exchanged → Run → Run
 run_with x run = record run { trace = run.trace ++ x ∷ [] }
 
-abbrev pub hand_with : Exchanged → Hand → Hand
+abbrev pub hand_with : Exchanged → WorkInHand → WorkInHand
 hand_with x h = record h { running = option_map (run_with x) h.running }
 
 -- an ask with its answer more in the trace of the form that runs

@@ -2,7 +2,7 @@
 use Rattle.std.specs.Prelude.{◌<◌, Option, None, Some, ⊤}
 use Rattle.std.specs.Vec.{vec_len, vec_capacity}
 use Rattle.tenant_parts.specs.declared.request.Run.{Run}
-use Rattle.tenant_parts.specs.declared.request.Hand.{Hand}
+use Rattle.tenant_parts.specs.declared.request.WorkInHand.{WorkInHand}
 use Rattle.tenant_parts.specs.declared.actor.ActorState.{ActorState}
 
 abbrev pub RunHasRoom : Run → Type 0
@@ -12,10 +12,10 @@ abbrev pub IfRuns : Option Run → Type 0
 IfRuns None = ⊤
 IfRuns (Some run) = RunHasRoom run
 
-abbrev pub HandHasRoom : Hand → Type 0
+abbrev pub HandHasRoom : WorkInHand → Type 0
 HandHasRoom hand = IfRuns hand.running
 
-abbrev pub IfInHand : Option Hand → Type 0
+abbrev pub IfInHand : Option WorkInHand → Type 0
 IfInHand None = ⊤
 IfInHand (Some hand) = HandHasRoom hand
 

@@ -39,9 +39,9 @@ abbrev pub sent_if : Bool → SenderData → SendingData → AgentsData → Agen
 sent_if true sender s agents = with_send s.agent (action_from sender s.task) agents
 sent_if false sender s agents = agents
 
-abbrev pub listed : {A : Type 0} → Option A → List A
-listed None = []
-listed (Some x) = x ∷ []
+abbrev pub sends_listed : {A : Type 0} → Option A → List A
+sends_listed None = []
+sends_listed (Some x) = x ∷ []
 
 -- what was asked for was told to be so
 abbrev pub is_told_yes : Option AnswerData → Bool

@@ -4,11 +4,11 @@ ghost use Rattle.std.specs.Arc.{arc_value};
 ghost use Rattle.repl_replies.specs.Replies.{interrupted};
 ghost use Rattle.repl_replies.specs.Inside.View.{origin_view};
 ghost use Rattle.server_rules.specs.Ground.{Ground};
-ghost use Rattle.server_rules.specs.Tenant.{Quiet, with_replies};
+ghost use Rattle.server_rules.specs.Tenant.{TenantState, with_replies};
 ghost use Rattle.server_rules.specs.Replying.{reply};
 ghost use Rattle.tenant_asks.specs.Memories.{Remembers, opened_by};
 
-use crate::memory::Memory;
+use crate::memory::Remembered;
 use repl_replies::{Body, Origin};
 use std::alloc::{AllocError, Global};
 use std::sync::Arc;
@@ -16,11 +16,11 @@ use tenant_parts::Batch;
 
 /// Answers a request that its session was closed. It fails only for want of memory, and then
 /// changes nothing.
-pub fn interrupt(alloc: Global, memory: &mut Memory, origin: &Arc<Origin>) -> Result<(), AllocError>
-    ensures told { (g : Ground) (t : ℕ) (q : Quiet) → Remembers g t memory.old q
+pub fn interrupt(alloc: Global, memory: &mut Remembered, origin: &Arc<Origin>) -> Result<(), AllocError>
+    ensures told { (g : Ground) (t : ℕ) (q : TenantState) → Remembers g t memory.old q
         → OnOk result (Remembers g t memory.new
         (with_replies (reply (origin_view (arc_value origin.now)) interrupted ∷ []) q)) }
-    ensures stays { (g : Ground) (t : ℕ) (q : Quiet) → Remembers g t memory.old q
+    ensures stays { (g : Ground) (t : ℕ) (q : TenantState) → Remembers g t memory.old q
         → OnErr result (Remembers g t memory.new q) }
     ensures opened { opened_by memory.new ≡ opened_by memory.old }
 {

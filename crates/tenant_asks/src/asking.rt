@@ -7,12 +7,12 @@ ghost use Rattle.repl_replies.specs.Replies.{interrupted};
 ghost use Rattle.repl_replies.specs.Inside.View.{origin_view};
 ghost use Rattle.server_rules.specs.Ground.{Ground};
 ghost use Rattle.server_rules.specs.Request as rules;
-ghost use Rattle.server_rules.specs.Tenant.{Quiet, seat_of, with_replies};
+ghost use Rattle.server_rules.specs.Tenant.{TenantState, seat_of, with_replies};
 ghost use Rattle.server_rules.specs.Replying.{reply};
 ghost use Rattle.ref_table.specs.Calls.{performed};
 ghost use Rattle.server_rules.specs.Cells.{with_sends_if, must_wait};
 ghost use Rattle.ref_table.specs.Store.{Store, left_attempt};
-ghost use Rattle.server_rules.specs.Asking.{call_of, sender_of, session_of};
+ghost use Rattle.server_rules.specs.Asking.{call_of, sender_of, session_number};
 ghost use Rattle.server_rules.specs.Asking as meant;
 ghost use Rattle.ref_table.specs.Refs.{Refs, refs_after};
 ghost use Rattle.ref_table.specs.Standing.{counter_of};
@@ -26,16 +26,16 @@ ghost use Rattle.tenant_asks.specs.Asking.{Answers, answered_plan, is_of_names};
 ghost use Rattle.tenant_asks.specs.Asking.{is_of_cells, why_waiting};
 ghost use Rattle.tenant_asks.specs.Sends.{committed_sends, is_told_yes, sender_view};
 ghost use Rattle.tenant_asks.specs.Cells.{cells_data};
-ghost use Rattle.tenant_asks.specs.Promises.{AcceptsAsk, RefusesAsk, LacksMemory, site};
+ghost use Rattle.tenant_asks.specs.Promises.{AcceptsAsk, RefusesAsk, LacksMemoryForAsk, site};
 ghost use Rattle.tenant_asks.specs.Rooms.{ActorHasRoom};
 ghost use Rattle.tenant_parts.specs.Serving.{PerformsCall, ServesWithAttempts};
-ghost use Rattle.tenant_parts.specs.Thrice.{thrice_view, told_answer, AreThrice};
+ghost use Rattle.tenant_parts.specs.AnswerCopies.{copies_view, told_answer, AreCopies};
 
 use crate::acting::interrupt;
 use crate::answers::{AskAnswer, AskAnswers};
 use crate::cells::Cells;
 use crate::keeping::{keep, make_room};
-use crate::memory::Memory;
+use crate::memory::Remembered;
 use crate::naming::name;
 use crate::sends;
 use crate::sends::{Sender, session_of};
@@ -47,7 +47,7 @@ use server_rules::{Actor, Refusal};
 use std::alloc::{AllocError, Global};
 use std::boxed::Box;
 use std::sync::Arc;
-use tenant_parts::{ActorState, Attempts, Hand, Thrice, call, is_told};
+use tenant_parts::{ActorState, Attempts, WorkInHand, AnswerCopies, call, is_told};
 
 // The first number that is none of the language.
 const END_OF_NUMBERS: u64 = 0x8000_0000_0000_0000;
@@ -55,7 +55,7 @@ const END_OF_NUMBERS: u64 = 0x8000_0000_0000_0000;
 /// The form of the actor that runs asks this. Where it is refused nothing has changed.
 pub fn ask(
     alloc: Global,
-    memory: &mut Memory,
+    memory: &mut Remembered,
     refs: &mut RefTable<RingHistory>,
     attempts: &mut Attempts,
     actor: Actor,
@@ -70,7 +70,7 @@ pub fn ask(
     ensures declined { RefusesAsk actor (ask_view ask.now)
         (site memory.old refs.old attempts.old (actor_view state.old))
         (site memory.new refs.new attempts.new (actor_view state.new)) result }
-    ensures no_memory { LacksMemory actor (ask_view ask.now)
+    ensures no_memory { LacksMemoryForAsk actor (ask_view ask.now)
         (site memory.old refs.old attempts.old (actor_view state.old)) result }
     ensures same { IfOk result AreSameAnswers }
     ensures step { IsActorStep memory.old memory.new (actor_view state.old) (actor_view state.new)
@@ -152,7 +152,7 @@ fn may_be_set(bound: Option<u64>) -> bool
 // Whether the ask is an await that is not met.
 fn must_wait(cells: &Cells, actor: Actor, ask: &Ask) -> bool
     ensures { result
-        ≡ must_wait (session_of actor) (ask_view ask.now) (cells_data cells.now) }
+        ≡ must_wait (session_number actor) (ask_view ask.now) (cells_data cells.now) }
 {
     match ask {
         Ask::Await(numbers) => cells.is_unmet(numbers.as_slice(), session_of(actor)),
@@ -184,14 +184,14 @@ fn why_waiting(
 // nothing would be told is refused here too.
 fn give_up(
     alloc: Global,
-    memory: &mut Memory,
+    memory: &mut Remembered,
     refs: &RefTable<RingHistory>,
     attempts: &mut Attempts,
     actor: Actor,
     origin: &Arc<Origin>,
     ask: &Ask,
 ) -> Result<(), Refusal>
-    ensures gone { (g : Ground) (q : Quiet) (s : Store) (r : Refs)
+    ensures gone { (g : Ground) (q : TenantState) (s : Store) (r : Refs)
         → Remembers g s.tenant memory.old q → ServesWithAttempts refs.now attempts.old s r
         → OnOk result
         ((is_some (performed s (call_of (seat_of actor) (ask_view ask.now))).told ≡ true)
@@ -199,7 +199,7 @@ fn give_up(
         (with_replies (reply (origin_view (arc_value origin.now)) interrupted ∷ []) q)
         × ServesWithAttempts refs.now attempts.new (left_attempt (seat_of actor) s)
         (refs_after (left_attempt (seat_of actor) s) r)) }
-    ensures stays { (g : Ground) (q : Quiet) (s : Store) (r : Refs)
+    ensures stays { (g : Ground) (q : TenantState) (s : Store) (r : Refs)
         → Remembers g s.tenant memory.old q → ServesWithAttempts refs.now attempts.old s r
         → IfErr result (λ why. (why ≢ Refusal.NoMemory → (why ≡ Refusal.Idle)
         × ((performed s (call_of (seat_of actor) (ask_view ask.now))).told ≡ None))
@@ -222,7 +222,7 @@ fn give_up(
 // would be told is asked where memory is refused, and only there: elsewhere the answer itself shows.
 fn answer(
     alloc: Global,
-    memory: &mut Memory,
+    memory: &mut Remembered,
     refs: &mut RefTable<RingHistory>,
     attempts: &mut Attempts,
     actor: Actor,
@@ -231,7 +231,7 @@ fn answer(
 ) -> Result<AskAnswers, Refusal>
     requires counted { counter_of refs.old < u128.MAX }
     requires hand { is_some state.old.hand ≡ true }
-    ensures acted { (g : Ground) (q : Quiet) (s : Store) (r : Refs) (h : rules.Hand)
+    ensures acted { (g : Ground) (q : TenantState) (s : Store) (r : Refs) (h : rules.WorkInHand)
         (run : rules.Run) → Remembers g s.tenant memory.old q
         → ServesWithAttempts refs.old attempts.old s r
         → meant.is_allowed (ask_view ask.now) q.cells ≡ true
@@ -241,7 +241,7 @@ fn answer(
         (λ x. AcceptsOutcome g s.tenant actor q d.outcome memory.new
         (actor_view state.new) (ask_answer_view x.given)
         × ServesWithAttempts refs.new attempts.new d.store (refs_after d.store r)) }
-    ensures declined { (g : Ground) (q : Quiet) (s : Store) (r : Refs) (h : rules.Hand)
+    ensures declined { (g : Ground) (q : TenantState) (s : Store) (r : Refs) (h : rules.WorkInHand)
         (run : rules.Run) → Remembers g s.tenant memory.old q
         → ServesWithAttempts refs.old attempts.old s r
         → meant.is_allowed (ask_view ask.now) q.cells ≡ true
@@ -249,7 +249,7 @@ fn answer(
         (ask_view ask.now) q) in IfErr result (λ why.
         RefusesOutcome g s.tenant q d.outcome memory.new why
         × ServesWithAttempts refs.new attempts.new s r) }
-    ensures no_memory { (g : Ground) (q : Quiet) (s : Store) (r : Refs) (h : rules.Hand)
+    ensures no_memory { (g : Ground) (q : TenantState) (s : Store) (r : Refs) (h : rules.WorkInHand)
         (run : rules.Run) → Remembers g s.tenant memory.old q
         → ServesWithAttempts refs.old attempts.old s r → result ≡ Err Refusal.NoMemory
         → is_accepted (carried_out s (answered_plan g actor (actor_view state.old) h run
@@ -273,7 +273,7 @@ fn answer(
     let Some(answer) = told else {
         return Err(Refusal::Idle);
     };
-    let Thrice { kept, given, noted } = answer;
+    let AnswerCopies { kept, given, noted } = answer;
     exchange.answer = kept;
     keep(state, exchange);
     Ok(AskAnswers {
@@ -329,15 +329,15 @@ fn exchange_with_room(
 // memory; then, and where nothing is told, nothing has changed.
 fn perform_ask(
     alloc: Global,
-    memory: &mut Memory,
+    memory: &mut Remembered,
     refs: &mut RefTable<RingHistory>,
     attempts: &mut Attempts,
     actor: Actor,
-    hand: &Hand,
+    hand: &WorkInHand,
     ask: &Ask,
-) -> Result<Option<Thrice>, AllocError>
+) -> Result<Option<AnswerCopies>, AllocError>
     requires { counter_of refs.old < u128.MAX }
-    ensures answered { (g : Ground) (q : Quiet) (s : Store) (r : Refs)
+    ensures answered { (g : Ground) (q : TenantState) (s : Store) (r : Refs)
         → Remembers g s.tenant memory.old q → ServesWithAttempts refs.old attempts.old s r
         → meant.is_allowed (ask_view ask.now) q.cells ≡ true
         → let p = performed s (call_of (seat_of actor) (ask_view ask.now)) in
@@ -345,8 +345,8 @@ fn perform_ask(
         ((p.told ≡ None) × Remembers g s.tenant memory.new q
         × ServesWithAttempts refs.new attempts.new s r)
         (λ answer. Answers g s.tenant actor (sender_of actor (hand_view hand.now)) q
-        (ask_view ask.now) p memory.new refs.new attempts.new r (thrice_view answer))) }
-    ensures stays { (g : Ground) (q : Quiet) (s : Store) (r : Refs)
+        (ask_view ask.now) p memory.new refs.new attempts.new r (copies_view answer))) }
+    ensures stays { (g : Ground) (q : TenantState) (s : Store) (r : Refs)
         → Remembers g s.tenant memory.old q → ServesWithAttempts refs.old attempts.old s r
         → OnErr result (Remembers g s.tenant memory.new q
         × ServesWithAttempts refs.new attempts.new s r) }
@@ -354,7 +354,7 @@ fn perform_ask(
     ensures counter { counter_of refs.new ≤ counter_of refs.old + 1 }
     ensures untold { IfOk result (λ it. IsNone it → counter_of refs.new ≡ counter_of refs.old) }
     ensures failed { OnErr result (counter_of refs.new ≡ counter_of refs.old) }
-    ensures thrice { IfOk result AreThrice }
+    ensures copies { IfOk result AreCopies }
 {
     if is_of_names(ask) {
         return Ok(Some(name(alloc, memory, actor, ask)?));
@@ -379,9 +379,9 @@ fn call_and_send(
     actor: Actor,
     sender: Sender<'_>,
     ask: &Ask,
-) -> Result<Option<Thrice>, AllocError>
+) -> Result<Option<AnswerCopies>, AllocError>
     requires { counter_of refs.old < u128.MAX }
-    ensures called { (q : Quiet) (s : Store) (r : Refs)
+    ensures called { (q : TenantState) (s : Store) (r : Refs)
         → ServesWithAttempts refs.old attempts.old s r
         → meant.is_allowed (ask_view ask.now) q.cells ≡ true
         → IfOk result (λ it. PerformsCall refs.new attempts.new r (told_answer it)
@@ -395,7 +395,7 @@ fn call_and_send(
     ensures counter { counter_of refs.new ≤ counter_of refs.old + 1 }
     ensures untold { IfOk result (λ it. IsNone it → counter_of refs.new ≡ counter_of refs.old) }
     ensures failed { OnErr result (counter_of refs.new ≡ counter_of refs.old) }
-    ensures thrice { IfOk result AreThrice }
+    ensures copies { IfOk result AreCopies }
 {
     let prepared = sends::prepare(alloc, &mut cells.agents, sender, sends_of(ask))?;
     let told = call(alloc, refs, attempts, actor, ask)?;

@@ -6,7 +6,7 @@ ghost use Rattle.repl_asks.specs.Exchange.{done};
 ghost use Rattle.repl_asks.specs.Inside.View.{ask_view, sending_view};
 ghost use Rattle.server_rules.specs.Cells as meant;
 ghost use Rattle.server_rules.specs.Cells.{cell_answer, cells_after};
-ghost use Rattle.tenant_parts.specs.Thrice.{thrice_view, IsThrice};
+ghost use Rattle.tenant_parts.specs.AnswerCopies.{copies_view, AreAllSame};
 ghost use Rattle.tenant_asks.specs.Asking.{is_of_cells};
 ghost use Rattle.tenant_asks.specs.Cells.{cells_data};
 ghost use Rattle.tenant_asks.specs.Sends.{sender_view};
@@ -16,7 +16,7 @@ use crate::{agents, atoms, sends};
 use private_cells::{Agents, Atoms, Await};
 use repl_asks::{Ask, Sending};
 use std::alloc::{AllocError, Global};
-use tenant_parts::Thrice;
+use tenant_parts::AnswerCopies;
 
 /// The atoms and agents of a tenant.
 #[derive(Drop)]
@@ -75,15 +75,15 @@ impl Cells {
         alloc: Global,
         sender: Sender<'_>,
         ask: &Ask,
-    ) -> Result<Thrice, AllocError>
+    ) -> Result<AnswerCopies, AllocError>
         requires { is_of_cells (ask_view ask.now) ≡ true }
-        ensures answered { IfOk result (λ it. thrice_view it
+        ensures answered { IfOk result (λ it. copies_view it
             ≡ cell_answer (ask_view ask.now) (cells_data self.old) done) }
         ensures changed { IfOk result (λ it. cells_data self.new
-            ≡ cells_after (sender_view sender.entry) (ask_view ask.now) (thrice_view it)
+            ≡ cells_after (sender_view sender.entry) (ask_view ask.now) (copies_view it)
             (cells_data self.old)) }
         ensures stays { OnErr result (cells_data self.new ≡ cells_data self.old) }
-        ensures thrice { IfOk result IsThrice }
+        ensures copies { IfOk result AreAllSame }
     {
         match ask {
             Ask::NewAtom(value) => atoms::make(&mut self.atoms, value),

@@ -8,7 +8,7 @@ ghost use Rattle.tenant_asks.specs.Rooms.{RunHasRoom, HandHasRoom, ActorHasRoom}
 use repl_asks::Exchange;
 use std::alloc::AllocError;
 use std::boxed::Box;
-use tenant_parts::{ActorState, Hand, Run};
+use tenant_parts::{ActorState, WorkInHand, Run};
 
 /// Makes room for an ask with its answer in the trace of the form that runs. It fails only for want
 /// of memory.
@@ -22,7 +22,7 @@ pub(crate) fn make_room(state: &mut ActorState) -> Result<(), AllocError>
     }
 }
 
-fn make_room_in_hand(hand: &mut Hand) -> Result<(), AllocError>
+fn make_room_in_hand(hand: &mut WorkInHand) -> Result<(), AllocError>
     ensures room { OnOk result (HandHasRoom hand.new) }
     ensures same { hand_view hand.new ≡ hand_view hand.old }
 {
@@ -51,7 +51,7 @@ pub(crate) fn keep(state: &mut ActorState, exchange: Box<Exchange>)
     }
 }
 
-fn keep_in_hand(hand: &mut Hand, exchange: Box<Exchange>)
+fn keep_in_hand(hand: &mut WorkInHand, exchange: Box<Exchange>)
     requires { HandHasRoom hand.old }
     ensures { hand_view hand.new ≡ hand_with (exchange_view exchange.value) (hand_view hand.old) }
 {

@@ -17,5 +17,5 @@ pub use acting::interrupt;
 pub use answers::{AskAnswer, AskAnswers};
 pub use asking::ask;
 pub use cells::Cells;
-pub use memory::Memory;
+pub use memory::Remembered;
 pub use sends::{Outgoing, Sender, send_all, sends_in};

@@ -5,7 +5,7 @@ ghost use Rattle.repl_sessions.specs.State.{fresh};
 ghost use Rattle.repl_replies.specs.Replies.{ReplyData, bytes_of};
 ghost use Rattle.repl_sessions.specs.Inside.StateView.{state_view};
 ghost use Rattle.server_rules.specs.Ground.{Ground};
-ghost use Rattle.server_rules.specs.Tenant.{Quiet, actor_state, with_state, with_replies};
+ghost use Rattle.server_rules.specs.Tenant.{TenantState, actor_state, with_state, with_replies};
 ghost use Rattle.server_rules.specs.Starting.{first_state};
 ghost use Rattle.server_rules.specs.Moves.{Move};
 ghost use Rattle.tenant_parts.specs.Replies.{made_bytes};
@@ -19,7 +19,7 @@ use std::alloc::{AllocError, Global};
 use tenant_parts::{Batch, Outbox};
 
 /// What the requests of a tenant share.
-pub struct Memory {
+pub struct Remembered {
     pub sessions: Sessions,
     /// What a request without a session remembers.
     pub bare: SessionState,
@@ -29,9 +29,9 @@ pub struct Memory {
     pub outbox: Outbox,
 }
 
-impl Drop for Memory {
+impl Drop for Remembered {
     fn drop(self) {
-        let Memory {
+        let Remembered {
             sessions: _sessions,
             bare: _bare,
             spaces: _spaces,
@@ -41,10 +41,10 @@ impl Drop for Memory {
     }
 }
 
-impl Memory {
+impl Remembered {
     /// What the session of an actor remembers, if it has one that was not closed.
     pub(crate) fn shown(&self, actor: Actor) -> Option<&SessionState>
-        ensures { (g : Ground) (t : ℕ) (q : Quiet) → Remembers g t self.now q
+        ensures { (g : Ground) (t : ℕ) (q : TenantState) → Remembers g t self.now q
             → unwrap_or (option_map (λ state. state_view state.now) result) fresh
             ≡ actor_state actor q }
     {
@@ -58,7 +58,7 @@ impl Memory {
     /// What the session of an actor remembers, once more. What a closed session remembers is what a
     /// fresh one does. It fails only for want of memory.
     pub fn state_of(&self, alloc: Global, actor: Actor) -> Result<SessionState, AllocError>
-        ensures { (g : Ground) (t : ℕ) (q : Quiet) → Remembers g t self.now q
+        ensures { (g : Ground) (t : ℕ) (q : TenantState) → Remembers g t self.now q
             → IfOk result (λ state. state_view state ≡ actor_state actor q) }
     {
         match self.shown(actor) {
@@ -69,7 +69,7 @@ impl Memory {
 
     /// What a request of an actor remembers when it begins. It fails only for want of memory.
     pub fn first_state(&self, alloc: Global, actor: Actor) -> Result<SessionState, AllocError>
-        ensures { (g : Ground) (t : ℕ) (q : Quiet) → Remembers g t self.now q
+        ensures { (g : Ground) (t : ℕ) (q : TenantState) → Remembers g t self.now q
             → IfOk result (λ state. state_view state ≡ first_state actor q) }
     {
         match actor {
@@ -80,7 +80,7 @@ impl Memory {
 
     /// Puts a state in the place of what the session of an actor remembers.
     pub(crate) fn put_state(&mut self, actor: Actor, state: SessionState)
-        ensures put { (g : Ground) (t : ℕ) (q : Quiet) → Remembers g t self.old q
+        ensures put { (g : Ground) (t : ℕ) (q : TenantState) → Remembers g t self.old q
             → Remembers g t self.new (with_state actor (state_view state) q) }
         ensures opened { opened_by self.new ≡ opened_by self.old }
         ensures cells { self.new.cells ≡ self.old.cells }
@@ -94,10 +94,10 @@ impl Memory {
 
     /// Lets replies wait. It fails only for want of memory, and then adds none.
     pub(crate) fn post(&mut self, batch: Batch) -> Result<(), AllocError>
-        ensures posted { (g : Ground) (t : ℕ) (q : Quiet) (more : List ReplyData)
+        ensures posted { (g : Ground) (t : ℕ) (q : TenantState) (more : List ReplyData)
             → Remembers g t self.old q → made_bytes batch ≡ map bytes_of more
             → OnOk result (Remembers g t self.new (with_replies more q)) }
-        ensures stays { (g : Ground) (t : ℕ) (q : Quiet) → Remembers g t self.old q
+        ensures stays { (g : Ground) (t : ℕ) (q : TenantState) → Remembers g t self.old q
             → OnErr result (Remembers g t self.new q) }
         ensures opened { opened_by self.new ≡ opened_by self.old }
         ensures cells { self.new.cells ≡ self.old.cells }
@@ -113,11 +113,11 @@ impl Memory {
         batch: Batch,
         state: SessionState,
     ) -> Result<(), AllocError>
-        ensures taken { (g : Ground) (t : ℕ) (q : Quiet) (m : Move) → Remembers g t self.old q
+        ensures taken { (g : Ground) (t : ℕ) (q : TenantState) (m : Move) → Remembers g t self.old q
             → made_bytes batch ≡ map bytes_of m.replies → state_view state ≡ m.state
             → OnOk result (Remembers g t self.new
             (with_replies m.replies (with_state actor m.state q))) }
-        ensures stays { (g : Ground) (t : ℕ) (q : Quiet) → Remembers g t self.old q
+        ensures stays { (g : Ground) (t : ℕ) (q : TenantState) → Remembers g t self.old q
             → OnErr result (Remembers g t self.new q) }
         ensures opened { opened_by self.new ≡ opened_by self.old }
         ensures cells { self.new.cells ≡ self.old.cells }

@@ -7,48 +7,48 @@ ghost use Rattle.repl_sessions.specs.Inside.StateView.{state_view};
 ghost use Rattle.name_spaces.specs.Inside.Seen.{found_view};
 ghost use Rattle.server_rules.specs.Cells.{SenderData};
 ghost use Rattle.server_rules.specs.Ground.{Ground};
-ghost use Rattle.server_rules.specs.Tenant.{Quiet, actor_state};
-ghost use Rattle.server_rules.specs.Asking.{answer_to, quiet_after};
+ghost use Rattle.server_rules.specs.Tenant.{TenantState, actor_state};
+ghost use Rattle.server_rules.specs.Asking.{answer_to, state_after};
 ghost use Rattle.server_rules.specs.Asking as meant;
 ghost use Rattle.tenant_asks.specs.Memories.{Remembers, opened_by};
 ghost use Rattle.tenant_asks.specs.Asking.{is_of_names};
-ghost use Rattle.tenant_parts.specs.Thrice.{thrice_view, IsThrice};
+ghost use Rattle.tenant_parts.specs.AnswerCopies.{copies_view, AreAllSame};
 
-use crate::memory::Memory;
+use crate::memory::Remembered;
 use name_spaces::{Found, Latest};
 use repl_asks::{Answer, Ask, Resolution};
 use repl_sessions::SessionState;
 use repl_values::{Value, copy, copy_text};
 use server_rules::Actor;
 use std::alloc::{AllocError, Global};
-use tenant_parts::Thrice;
+use tenant_parts::AnswerCopies;
 
 /// Answers an ask of names, and does what is asked. It fails only for want of memory, and has then
 /// changed nothing.
 pub(crate) fn name(
     alloc: Global,
-    memory: &mut Memory,
+    memory: &mut Remembered,
     actor: Actor,
     ask: &Ask,
-) -> Result<Thrice, AllocError>
+) -> Result<AnswerCopies, AllocError>
     requires { is_of_names (ask_view ask.now) ≡ true }
-    ensures answered { (g : Ground) (t : ℕ) (sender : SenderData) (q : Quiet)
+    ensures answered { (g : Ground) (t : ℕ) (sender : SenderData) (q : TenantState)
         → Remembers g t memory.old q → IfOk result (λ it.
-        (thrice_view it ≡ answer_to g actor q (ask_view ask.now) done)
-        × Remembers g t memory.new (quiet_after sender (ask_view ask.now) (thrice_view it) q)) }
-    ensures stays { (g : Ground) (t : ℕ) (q : Quiet) → Remembers g t memory.old q
+        (copies_view it ≡ answer_to g actor q (ask_view ask.now) done)
+        × Remembers g t memory.new (state_after sender (ask_view ask.now) (copies_view it) q)) }
+    ensures stays { (g : Ground) (t : ℕ) (q : TenantState) → Remembers g t memory.old q
         → OnErr result (Remembers g t memory.new q) }
     ensures opened { opened_by memory.new ≡ opened_by memory.old }
-    ensures thrice { IfOk result IsThrice }
+    ensures copies { IfOk result AreAllSame }
 {
-    let answer = Thrice::of(answer_of(alloc, memory, actor, ask)?)?;
+    let answer = AnswerCopies::of(answer_of(alloc, memory, actor, ask)?)?;
     change(alloc, memory, ask)?;
     Ok(answer)
 }
 
-fn answer_of(alloc: Global, memory: &Memory, actor: Actor, ask: &Ask) -> Result<Answer, AllocError>
+fn answer_of(alloc: Global, memory: &Remembered, actor: Actor, ask: &Ask) -> Result<Answer, AllocError>
     requires { is_of_names (ask_view ask.now) ≡ true }
-    ensures { (g : Ground) (t : ℕ) (q : Quiet) → Remembers g t memory.now q
+    ensures { (g : Ground) (t : ℕ) (q : TenantState) → Remembers g t memory.now q
         → IfOk result (λ a. answer_view a ≡ answer_to g actor q (ask_view ask.now) done) }
 {
     match ask {
@@ -63,8 +63,8 @@ fn answer_of(alloc: Global, memory: &Memory, actor: Actor, ask: &Ask) -> Result<
     }
 }
 
-fn resolution_of(memory: &Memory, actor: Actor, found: Found) -> Result<Resolution, AllocError>
-    ensures { (g : Ground) (t : ℕ) (q : Quiet) → Remembers g t memory.now q
+fn resolution_of(memory: &Remembered, actor: Actor, found: Found) -> Result<Resolution, AllocError>
+    ensures { (g : Ground) (t : ℕ) (q : TenantState) → Remembers g t memory.now q
         → IfOk result (λ named. resolution_view named
         ≡ meant.resolution_of (actor_state actor q) (found_view found)) }
 {
@@ -75,8 +75,8 @@ fn resolution_of(memory: &Memory, actor: Actor, found: Found) -> Result<Resoluti
 }
 
 // It fails only where 2^63 owners share a part of the value.
-fn latest_value(memory: &Memory, actor: Actor, latest: Latest) -> Result<Value, AllocError>
-    ensures { (g : Ground) (t : ℕ) (q : Quiet) → Remembers g t memory.now q
+fn latest_value(memory: &Remembered, actor: Actor, latest: Latest) -> Result<Value, AllocError>
+    ensures { (g : Ground) (t : ℕ) (q : TenantState) → Remembers g t memory.now q
         → IfOk result (λ value. view value ≡ meant.latest_of latest (actor_state actor q)) }
 {
     match memory.shown(actor) {
@@ -97,12 +97,12 @@ fn latest_of(state: &SessionState, latest: Latest) -> &Value
 }
 
 // A name is bound, or a namespace made. It fails only for want of memory, and then changes nothing.
-fn change(alloc: Global, memory: &mut Memory, ask: &Ask) -> Result<(), AllocError>
+fn change(alloc: Global, memory: &mut Remembered, ask: &Ask) -> Result<(), AllocError>
     requires { is_of_names (ask_view ask.now) ≡ true }
     ensures changed { (g : Ground) (t : ℕ) (sender : SenderData) (answer : AnswerData)
-        (q : Quiet) → Remembers g t memory.old q
-        → OnOk result (Remembers g t memory.new (quiet_after sender (ask_view ask.now) answer q)) }
-    ensures stays { (g : Ground) (t : ℕ) (q : Quiet) → Remembers g t memory.old q
+        (q : TenantState) → Remembers g t memory.old q
+        → OnOk result (Remembers g t memory.new (state_after sender (ask_view ask.now) answer q)) }
+    ensures stays { (g : Ground) (t : ℕ) (q : TenantState) → Remembers g t memory.old q
         → OnErr result (Remembers g t memory.new q) }
     ensures opened { opened_by memory.new ≡ opened_by memory.old }
 {

@@ -4,13 +4,13 @@ ghost use Rattle.std.specs.Prelude.{IfOk, OnErr};
 ghost use Rattle.repl_asks.specs.Exchange as told;
 ghost use Rattle.repl_asks.specs.Inside.View.{ask_view, answer_view, sending_view};
 ghost use Rattle.private_cells.specs.Inside.View.{agents_view, room_of};
-ghost use Rattle.server_rules.specs.Asking.{sender_of, session_of, sending_session};
+ghost use Rattle.server_rules.specs.Asking.{sender_of, session_number, sending_session};
 ghost use Rattle.server_rules.specs.Cells.{is_yes, send_permission, sends_by, stays_inside};
 ghost use Rattle.tenant_parts.specs.View.{hand_view, kept_trace, manner_view, run_view};
-ghost use Rattle.tenant_parts.specs.Thrice.{thrice_view, told_answer, IsThrice};
+ghost use Rattle.tenant_parts.specs.AnswerCopies.{copies_view, told_answer, AreAllSame};
 ghost use Rattle.tenant_asks.specs.Sends.{all_sent, all_sent_if, is_told_yes, outgoing_from};
 ghost use Rattle.tenant_asks.specs.Sends.{outgoing_view};
-ghost use Rattle.tenant_asks.specs.Sends.{sender_view, sent_if, listed, outgoing_in, trace_of};
+ghost use Rattle.tenant_asks.specs.Sends.{sender_view, sent_if, sends_listed, outgoing_in, trace_of};
 
 use private_cells::{Action, Agents};
 use repl_asks::{Answer, Ask, Exchange, Permission, Reading, Sending, Verdict};
@@ -20,7 +20,7 @@ use server_rules::Actor;
 use std::alloc::{AllocError, Global};
 use std::collections::VecDeque;
 use std::sync::Arc;
-use tenant_parts::{Hand, Manner, Run, Thrice};
+use tenant_parts::{WorkInHand, Manner, Run, AnswerCopies};
 
 /// Who sends: what the replies to its request carry, and the number of its session, if it has one.
 #[derive(Clone, Copy)]
@@ -38,7 +38,7 @@ pub struct Outgoing {
 
 impl<'a> Sender<'a> {
     /// An actor, with the request that it has in hand.
-    pub fn of(actor: Actor, hand: &'a Hand) -> Sender<'a>
+    pub fn of(actor: Actor, hand: &'a WorkInHand) -> Sender<'a>
         ensures { sender_view result ≡ sender_of actor (hand_view hand.now) }
     {
         Sender {
@@ -60,7 +60,7 @@ fn sending_session(actor: Actor, manner: &Manner) -> Option<u64>
 
 /// The number of the session of an actor, if it has one.
 pub(crate) fn session_of(actor: Actor) -> Option<u64>
-    ensures { result ≡ session_of actor }
+    ensures { result ≡ session_number actor }
 {
     match actor {
         Actor::Agents | Actor::Bare => None,
@@ -85,16 +85,16 @@ fn to_send(sender: Sender<'_>, sending: &Sending) -> Result<Outgoing, AllocError
 
 /// Whether something may be sent to the agent of this number: not where it is failed. It fails only
 /// for want of memory.
-pub(crate) fn permission(alloc: Global, agents: &Agents, number: u64) -> Result<Thrice, AllocError>
-    ensures answered { IfOk result (λ it. thrice_view it
+pub(crate) fn permission(alloc: Global, agents: &Agents, number: u64) -> Result<AnswerCopies, AllocError>
+    ensures answered { IfOk result (λ it. copies_view it
         ≡ told.permission (send_permission number (agents_view agents.now))) }
-    ensures thrice { IfOk result IsThrice }
+    ensures copies { IfOk result AreAllSame }
 {
     match agents.fault(number) {
-        None => Ok(Thrice::granted()),
+        None => Ok(AnswerCopies::granted()),
         Some(_) => {
             let fault = broken_rule(alloc, Rule::AgentHasNotFailed)?;
-            Thrice::of(Answer::Permission(Permission::Denied(fault)))
+            AnswerCopies::of(Answer::Permission(Permission::Denied(fault)))
         }
     }
 }
@@ -105,14 +105,14 @@ pub(crate) fn send(
     agents: &mut Agents,
     sender: Sender<'_>,
     sending: &Sending,
-) -> Result<Thrice, AllocError>
-    ensures answered { IfOk result (λ it. thrice_view it ≡ told.permission
+) -> Result<AnswerCopies, AllocError>
+    ensures answered { IfOk result (λ it. copies_view it ≡ told.permission
         (send_permission (sending_view sending.now).agent (agents_view agents.old))) }
     ensures sent { IfOk result (λ it. agents_view agents.new
-        ≡ sent_if (is_yes (thrice_view it)) (sender_view sender.entry)
+        ≡ sent_if (is_yes (copies_view it)) (sender_view sender.entry)
         (sending_view sending.now) (agents_view agents.old)) }
     ensures stays { OnErr result (agents_view agents.new ≡ agents_view agents.old) }
-    ensures thrice { IfOk result IsThrice }
+    ensures copies { IfOk result AreAllSame }
 {
     if agents.fault(sending.agent).is_some() {
         return permission(alloc, agents, sending.agent);
@@ -120,7 +120,7 @@ pub(crate) fn send(
     let Outgoing { agent, action } = to_send(sender, sending)?;
     agents.reserve(1)?;
     agents.send(agent, action);
-    Ok(Thrice::granted())
+    Ok(AnswerCopies::granted())
 }
 
 /// What an attempt sends, with room for all of it. It fails only for want of memory, and sends
@@ -145,7 +145,7 @@ pub(crate) fn prepare(
 }
 
 /// All of this is sent, in order, where what was asked for was told to be so. There is room for it.
-pub(crate) fn settle(agents: &mut Agents, told: &Option<Thrice>, prepared: VecDeque<Outgoing>)
+pub(crate) fn settle(agents: &mut Agents, told: &Option<AnswerCopies>, prepared: VecDeque<Outgoing>)
     requires { length prepared.items ≤ room_of agents.old }
     ensures { agents_view agents.new ≡ all_sent_if (is_told_yes (told_answer told.now))
         (map outgoing_view prepared.items) (agents_view agents.old) }
@@ -168,7 +168,7 @@ pub fn send_all(agents: &mut Agents, prepared: VecDeque<Outgoing>)
     }
 }
 
-fn is_yes(told: &Option<Thrice>) -> bool
+fn is_yes(told: &Option<AnswerCopies>) -> bool
     ensures { result ≡ is_told_yes (told_answer told.now) }
 {
     let Some(it) = told else {
@@ -218,7 +218,7 @@ fn sends_outside(
 
 // What an ask that was answered so may send, behind the others, if it may send anything.
 fn sent_by(is_inside: bool, exchange: &Exchange) -> Option<&Sending>
-    ensures { listed (option_map (λ s. sending_view s.now) result)
+    ensures { sends_listed (option_map (λ s. sending_view s.now) result)
         ≡ sends_by is_inside (ask_view exchange.now.ask) (answer_view exchange.now.answer) }
 {
     if is_inside {

@@ -5,13 +5,13 @@ use Rattle.repl_replies.specs.Replies.{OriginData}
 use Rattle.repl_sessions.specs.State.{StateData}
 use Rattle.name_spaces.specs.Namespaces.{Namespaces}
 use Rattle.server_rules.specs.Ground.{Ground}
-use Rattle.server_rules.specs.Request.{Hand, ProgramText, code, file}
+use Rattle.server_rules.specs.Request.{WorkInHand, ProgramText, code, file}
 use Rattle.server_rules.specs.Starting.{Started, next_begun, text_begun, elsewhere_begun}
 use Rattle.tenant_moves.specs.Opening.{opened_hand, named_namespace, opened_elsewhere}
 use Rattle.tenant_moves.specs.Starts.{first_item, form_begun_with, request_over, not_found}
 
 -- what an opened request begins with
-abbrev pub start_opened : Ground → OriginData → StateData → Option Hand → Started
+abbrev pub start_opened : Ground → OriginData → StateData → Option WorkInHand → Started
 start_opened g origin state None = not_found origin state
 start_opened g origin state (Some h) = next_begun g h state h.forms
 
@@ -32,7 +32,7 @@ opened_hand-begins g spaces origin state (code text (Some ns)) =
 opened_hand-begins g spaces origin state (file text) = refl
 
 -- the first of the forms begins
-pub first-begins : (g : Ground) (h : Hand) (state : StateData) (forms : Items) (d : Datum)
+pub first-begins : (g : Ground) (h : WorkInHand) (state : StateData) (forms : Items) (d : Datum)
     → first_item forms ≡ Some d
     → form_begun_with g (record h { forms = forms }) state d
     ≡ next_begun g (record h { forms = forms }) state forms
@@ -41,7 +41,7 @@ first-begins g h state (item e es) d first =
     ap (λ it. form_begun_with g (record h { forms = item e es }) state it) (cc)
 
 -- there is none
-pub none-begins : (g : Ground) (h : Hand) (state : StateData) (forms : Items)
+pub none-begins : (g : Ground) (h : WorkInHand) (state : StateData) (forms : Items)
     → first_item forms ≡ None
     → request_over h state ≡ next_begun g (record h { forms = forms }) state forms
 none-begins g h state no_items first = refl

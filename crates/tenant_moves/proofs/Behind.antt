@@ -9,16 +9,16 @@ use Rattle.value_data.specs.declared.value.Value.{Value}
 use Rattle.repl_values.specs.Failure.{Failure}
 use Rattle.repl_replies.specs.Replies.{OriginData, ReplyData, bytes_of}
 use Rattle.repl_sessions.specs.State.{StateData}
-use Rattle.server_rules.specs.Request.{Hand, Manner, each_form, each_form_elsewhere, last_form}
+use Rattle.server_rules.specs.Request.{WorkInHand, Manner, each_form, each_form_elsewhere, last_form}
 use Rattle.server_rules.specs.Request.{of_action}
 use Rattle.server_rules.specs.Moves.{Move, preceded_by, closing_move, going_on, in_hand}
-use Rattle.tenant_moves.specs.declared.news.News.{News}
+use Rattle.tenant_moves.specs.declared.effects.RequestEffects.{RequestEffects}
 use Rattle.tenant_moves.specs.declared.ending.After.{After}
-use Rattle.tenant_moves.specs.Told.{told_bytes, told_state, Adds, Tells}
+use Rattle.tenant_moves.specs.Told.{told_bytes, told_state, Adds, TellsMove}
 use Rattle.tenant_moves.specs.Endings.{are_none, EndsFormBy}
 
-pub ends-behind : (r : List ReplyData) (f : StateData → Move) (s : StateData) (h : Hand)
-    (old mid new : News) (after : After)
+pub ends-behind : (r : List ReplyData) (f : StateData → Move) (s : StateData) (h : WorkInHand)
+    (old mid new : RequestEffects) (after : After)
     → told_bytes mid ≡ told_bytes old ++ map bytes_of r → told_state mid ≡ s
     → EndsFormBy (f (told_state mid)) h mid new after → EndsFormBy (preceded_by r (f s)) h old new after
 ends-behind r f s h old mid new after told same e =
@@ -35,13 +35,13 @@ ends-behind r f s h old mid new after told same e =
     }
 
 -- no form is left
-pub over-behind : (h : Hand) (forms : Items) (s : StateData) → are_none forms ≡ true
+pub over-behind : (h : WorkInHand) (forms : Items) (s : StateData) → are_none forms ≡ true
     → going_on h forms s ≡ closing_move h.origin h.manner h.fault s
 over-behind h no_items s none = refl
 over-behind h (item d ds) s none = absurd (true≢false (sym none))
 
 -- forms are left
-pub next-behind : (h : Hand) (forms : Items) (s : StateData) → are_none forms ≡ false
+pub next-behind : (h : WorkInHand) (forms : Items) (s : StateData) → are_none forms ≡ false
     → going_on h forms s ≡ in_hand (record h { running = None; forms = forms }) s
 next-behind h no_items s some = absurd (true≢false some)
 next-behind h (item d ds) s some = refl
@@ -56,7 +56,7 @@ closing_move-hand origin (last_form d) None s = refl
 closing_move-hand origin (of_action session) None s = refl
 
 -- the request is done behind its last form
-pub ends-over : (h k : Hand) (s : StateData) (old new : News) → are_none h.forms ≡ true
+pub ends-over : (h k : WorkInHand) (s : StateData) (old new : RequestEffects) → are_none h.forms ≡ true
     → Adds (closing_move h.origin h.manner h.fault s) old new
     → EndsFormBy (going_on h h.forms s) k old new After.Over
 ends-over h k s old new none told =
@@ -64,7 +64,7 @@ ends-over h k s old new none told =
     (record { told = told; hand = sym (closing_move-hand h.origin h.manner h.fault s) })
 
 -- the first that is told of a move
-pub tells-first : (m : Move) (old new : News) → told_bytes old ≡ [] → Adds m old new → Tells m new
+pub tells-first : (m : Move) (old new : RequestEffects) → told_bytes old ≡ [] → Adds m old new → TellsMove m new
 tells-first m old new none adds = record {
   replies = adds.replies ∙ ap (λ front. front ++ map bytes_of m.replies) none;
   state = adds.state;

@@ -23,7 +23,7 @@ use Rattle.server_rules.specs.Operating.{closed_by, with_close, interruption, as
 use Rattle.server_rules.specs.Operating.{with_asked, with_message}
 use Rattle.server_rules.specs.Replying.{reply}
 use Rattle.server_rules.specs.Request.{Waiting}
-use Rattle.server_rules.specs.Tenant.{ActorData, unoccupied, seat_of, Quiet, with_replies}
+use Rattle.server_rules.specs.Tenant.{ActorData, unoccupied, seat_of, TenantState, with_replies}
 use Rattle.server_rules.specs.declared.actor.Actor.{Actor}
 use Rattle.tenant_parts.specs.Queues.{changed_found, with_changed_actor, with_request, vacated_found}
 use Rattle.tenant_parts.specs.Queues.{vacated_at}
@@ -39,13 +39,13 @@ use Rattle.tenant_moves.proofs.Remaining.{leaving-inserted, remaining_sessions-n
 use Rattle.tenant_moves.proofs.Remaining.{remaining_sessions-inserted, remaining_sessions-opened}
 use Rattle.tenant_moves.proofs.Remaining.{first-remaining_sessions, open-remaining_sessions}
 
-pub named-same : (g : Ground) (t : ℕ) (q : Quiet) (waiting : List (List ℕ)) (x : Scene) → Drafts g t q waiting x
+pub named-same : (g : Ground) (t : ℕ) (q : TenantState) (waiting : List (List ℕ)) (x : Scene) → Drafts g t q waiting x
     → named_sessions g t q ≡ remaining_named x.leaving x.sessions
 named-same g t q waiting x d =
     ap₂ (λ i s. record { ids = i; sessions = s }) (sym d.ids) d.sessions
 
 -- replies are made
-pub replies-made : (q : Quiet) (waiting made now : List (List ℕ)) (more : List ReplyData) → map bytes_of q.replies ≡ waiting ++ made
+pub replies-made : (q : TenantState) (waiting made now : List (List ℕ)) (more : List ReplyData) → map bytes_of q.replies ≡ waiting ++ made
     → now ≡ made ++ map bytes_of more → map bytes_of (q.replies ++ more) ≡ waiting ++ now
 replies-made q waiting made now more was is =
     map-append bytes_of q.replies more ∙ ap (λ (l : List (List ℕ)). l ++ map bytes_of more) was
@@ -75,7 +75,7 @@ first-same : (ks : List ℕ) (s : SessionsData) (original : Option ℕ) → IsSe
 first-same ks s None served = refl
 first-same ks s (Some n) served = first-remaining_sessions ks s n (open-remaining_sessions ks n s (served n refl))
 
-next-stays : (g : Ground) (t : ℕ) (q : Quiet) (waiting : List (List ℕ)) (x : Scene) → Drafts g t q waiting x
+next-stays : (g : Ground) (t : ℕ) (q : TenantState) (waiting : List (List ℕ)) (x : Scene) → Drafts g t q waiting x
     → is_leaving x.leaving x.sessions.sessions.opened ≡ false
 next-stays g t q waiting x d = false_from_ne_true _ (λ is. let low = d.given x.sessions.sessions.opened is in omega (arith, low))
 
@@ -157,7 +157,7 @@ comes-closed o n x y actor seated served is same others leaves told = λ g t q w
     subst (λ (o' : Option ActorData). Drafts g t (closed_by o n q o') waiting y) (sym here) after
 
 -- a request waits
-requested-found : (a : Actor) (w : Waiting) (q : Quiet) (o : Option ActorData)
+requested-found : (a : Actor) (w : Waiting) (q : TenantState) (o : Option ActorData)
     → queued_for a w q o ≡ record q { actors = changed_found (seat_of a) (with_request w) q.actors o }
 requested-found a w q None = refl
 requested-found a w q (Some actor) = refl
@@ -182,7 +182,7 @@ comes-with_queued_request session w x y served same queued stay told = λ g t q 
       replies = d.replies ∙ ap (λ (l : List (List ℕ)). waiting ++ l) (sym told);
       given = λ n leaves. subst (λ (s : NamedSessions). n < s.sessions.opened) (sym same) (d.given n (ap (λ l. is_leaving l n) (sym stay) ∙ leaves));
     } in
-    subst (λ (q' : Quiet). Drafts g t q' waiting y) (sym (requested-found a w q (part_under (seat_of a) q.actors))) after
+    subst (λ (q' : TenantState). Drafts g t q' waiting y) (sym (requested-found a w q (part_under (seat_of a) q.actors))) after
 
 -- a message
 pub comes-asked : (fields : Pairs) (r : Result AskedData ReplyData) (x y : Scene)
@@ -209,11 +209,11 @@ comes-none m x (is_list ts) = λ g t q waiting d. d
 pub comes-other : (m o : Tree) (x : Scene) → m ≡ o → IsOther o → FollowsRules (λ g t. with_message g t m) x x
 comes-other m o x is other = subst (λ (it : Tree). FollowsRules (λ g t. with_message g t it) x x) (sym is) (comes-none o x other)
 
-pub drafts-as : (g : Ground) (t : ℕ) (q r : Quiet) (waiting : List (List ℕ)) (x : Scene) → q ≡ r → Drafts g t q waiting x → Drafts g t r waiting x
-drafts-as g t q r waiting x same d = subst (λ (it : Quiet). Drafts g t it waiting x) same d
+pub drafts-as : (g : Ground) (t : ℕ) (q r : TenantState) (waiting : List (List ℕ)) (x : Scene) → q ≡ r → Drafts g t q waiting x → Drafts g t r waiting x
+drafts-as g t q r waiting x same d = subst (λ (it : TenantState). Drafts g t it waiting x) same d
 
 -- before the first message, and once those that leave have left
-pub drafts-first : (g : Ground) (t : ℕ) (q : Quiet) (waiting : List (List ℕ)) (x : Scene) → PartsStandFor g t q x.sessions x.actors waiting
+pub drafts-first : (g : Ground) (t : ℕ) (q : TenantState) (waiting : List (List ℕ)) (x : Scene) → PartsStandFor g t q x.sessions x.actors waiting
     → x.leaving ≡ [] → x.made ≡ [] → Drafts g t q waiting x
 drafts-first g t q waiting x h none nothing = record {
   ids = ap (λ (s : NamedSessions). s.ids) h.sessions;
@@ -224,7 +224,7 @@ drafts-first g t q waiting x h none nothing = record {
   given = λ n leaves. absurd (true≢false (sym leaves ∙ ap (λ l. is_leaving l n) none));
 }
 
-pub drafts-last : (g : Ground) (t : ℕ) (q : Quiet) (waiting now : List (List ℕ)) (x : Scene) (s : NamedSessions) (es : List (Entry ActorData))
+pub drafts-last : (g : Ground) (t : ℕ) (q : TenantState) (waiting now : List (List ℕ)) (x : Scene) (s : NamedSessions) (es : List (Entry ActorData))
     → Drafts g t q waiting x → s ≡ remaining_named x.leaving x.sessions → es ≡ all_vacated x.leaving x.actors → now ≡ waiting ++ x.made
     → PartsStandFor g t q s es now
 drafts-last g t q waiting now x s es d rest left posted = record {

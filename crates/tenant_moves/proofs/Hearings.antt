@@ -23,7 +23,7 @@ use Rattle.server_rules.specs.Operating.{named_sessions, closed_by, asker, queue
 use Rattle.server_rules.specs.Operating.{after_operation, with_asked, with_message}
 use Rattle.server_rules.specs.Readings.{AreRight, message_limit}
 use Rattle.server_rules.specs.Request.{Waiting}
-use Rattle.server_rules.specs.Tenant.{ActorData, seat_of, Quiet, with_replies}
+use Rattle.server_rules.specs.Tenant.{ActorData, seat_of, TenantState, with_replies}
 use Rattle.server_rules.specs.declared.actor.Actor.{Actor}
 use Rattle.tenant_moves.specs.Heard.{IsHeard}
 use Rattle.tenant_moves.specs.Holds.{PartsStandFor}
@@ -31,15 +31,15 @@ use Rattle.tenant_moves.specs.HasReadAll.{HasReadAll}
 use Rattle.tenant_moves.specs.Handled.{told_broken, with_piece}
 
 -- messages leave the bytes that were heard
-closed-heard : (o : OriginData) (n : ℕ) (q : Quiet) (a : Option ActorData) → (closed_by o n q a).heard ≡ q.heard
+closed-heard : (o : OriginData) (n : ℕ) (q : TenantState) (a : Option ActorData) → (closed_by o n q a).heard ≡ q.heard
 closed-heard o n q None = refl
 closed-heard o n q (Some a) = refl
 
-queued-heard : (a : Actor) (w : Waiting) (q : Quiet) (o : Option ActorData) → (queued_for a w q o).heard ≡ q.heard
+queued-heard : (a : Actor) (w : Waiting) (q : TenantState) (o : Option ActorData) → (queued_for a w q o).heard ≡ q.heard
 queued-heard a w q None = refl
 queued-heard a w q (Some actor) = refl
 
-after_operation-heard : (g : Ground) (t : ℕ) (o : OriginData) (op : OperationData) (q : Quiet) → (after_operation g t o op q).heard ≡ q.heard
+after_operation-heard : (g : Ground) (t : ℕ) (o : OriginData) (op : OperationData) (q : TenantState) → (after_operation g t o op q).heard ≡ q.heard
 after_operation-heard g t o (operations.clone original) q = refl
 after_operation-heard g t o (operations.close n) q = closed-heard o n q (part_under (seat_of (Actor.Session n)) q.actors)
 after_operation-heard g t o (operations.describe session) q = refl
@@ -47,22 +47,22 @@ after_operation-heard g t o (operations.list_sessions session) q = refl
 after_operation-heard g t o (operations.eval session text ns) q = queued-heard (asker session) _ q (part_under (seat_of (asker session)) q.actors)
 after_operation-heard g t o (operations.load_file session text) q = queued-heard (asker session) _ q (part_under (seat_of (asker session)) q.actors)
 
-asked-heard : (g : Ground) (t : ℕ) (r : Result AskedData ReplyData) (q : Quiet) → (with_asked g t r q).heard ≡ q.heard
+asked-heard : (g : Ground) (t : ℕ) (r : Result AskedData ReplyData) (q : TenantState) → (with_asked g t r q).heard ≡ q.heard
 asked-heard g t (Ok a) q = after_operation-heard g t a.origin a.operation q
 asked-heard g t (Err refusal) q = refl
 
-message-heard : (g : Ground) (t : ℕ) (m : Tree) (q : Quiet) → (with_message g t m q).heard ≡ q.heard
+message-heard : (g : Ground) (t : ℕ) (m : Tree) (q : TenantState) → (with_message g t m q).heard ≡ q.heard
 unfolding with_message
 message-heard g t (dictionary fields) q = asked-heard g t (operations.operation_or_reply (number_named (named_sessions g t q)) fields) q
 message-heard g t (integer n) q = refl
 message-heard g t (string bytes) q = refl
 message-heard g t (list ts) q = refl
 
-messages-heard : (g : Ground) (t : ℕ) (ms : List Tree) (q : Quiet) → (with_messages g t ms q).heard ≡ q.heard
+messages-heard : (g : Ground) (t : ℕ) (ms : List Tree) (q : TenantState) → (with_messages g t ms q).heard ≡ q.heard
 messages-heard g t [] q = refl
 messages-heard g t (m ∷ ms) q = messages-heard g t ms (with_message g t m q) ∙ message-heard g t m q
 
-pub taken-heard : (g : Ground) (t : ℕ) (piece : List ℕ) (q : Quiet) → (taken_in g t piece q).heard ≡ q.heard ++ piece
+pub taken-heard : (g : Ground) (t : ℕ) (piece : List ℕ) (q : TenantState) → (taken_in g t piece q).heard ≡ q.heard ++ piece
 unfolding taken_in
 taken-heard g t piece q =
     messages-heard g t (new_messages g.readings q.heard piece) (record q { heard = q.heard ++ piece })
@@ -96,7 +96,7 @@ told-fault : (o : Option WireFault) → told_broken (is_some o) ≡ fault_told o
 told-fault None = refl
 told-fault (Some f) = refl
 
-pub heard-all : (g : Ground) (t : ℕ) (q : Quiet) (piece : List ℕ) (messages : List Tree) (broken : Bool) (count : ℕ) (d : Decoder)
+pub heard-all : (g : Ground) (t : ℕ) (q : TenantState) (piece : List ℕ) (messages : List Tree) (broken : Bool) (count : ℕ) (d : Decoder)
     (s : NamedSessions) (es : List (Entry ActorData)) (waiting : List (List ℕ))
     → AreRight g.readings → DecoderStands message_limit d (q.heard ++ piece) ((g.readings.stream q.heard).messages ++ messages) → ready_of d ≡ []
     → broken ≡ is_some (fault_of d) → count ≡ length messages
@@ -111,14 +111,14 @@ heard-all g t q piece messages broken count d s es waiting right stands ready is
     sym (drop-append_seam before messages) ∙ ap (drop (length before)) r.messages in
     let told : told_broken broken ≡ fault_told (stream_fault g.readings all) =
     ap told_broken is ∙ told-fault (fault_of d) ∙ ap fault_told r.reads.fault in
-    let start : Quiet = record q { heard = all } in
+    let start : TenantState = record q { heard = all } in
     let after : with_piece g t messages broken start ≡ taken_in g t piece q =
     ap (λ ms. with_replies (told_broken broken) (with_messages g t ms start)) fresh
     ∙ ap (λ more. with_replies more (with_messages g t (new_messages g.readings q.heard piece) start)) told in
     record {
       messages = counted_place ∙ ap length fresh;
       reads = subst (λ bytes. HasReadAll g bytes d) (sym (taken-heard g t piece q)) r.reads;
-      holds = subst (λ (it : Quiet). PartsStandFor g t it s es waiting) after held;
+      holds = subst (λ (it : TenantState). PartsStandFor g t it s es waiting) after held;
     }
 
 -- no message is ready once the piece is taken back

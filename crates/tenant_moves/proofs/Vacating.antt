@@ -10,7 +10,7 @@ use Rattle.std.proofs.lemmas.Cmp.{ranked}
 use Rattle.repl_sessions.specs.Inside.Leaving.{is_leaving}
 use Rattle.ref_table.specs.Numbered.{Entry, entry, part_under, with_part, without}
 use Rattle.server_rules.specs.Operating.{with_vacated_seat}
-use Rattle.server_rules.specs.Request.{Hand}
+use Rattle.server_rules.specs.Request.{WorkInHand}
 use Rattle.server_rules.specs.Tenant.{ActorData}
 use Rattle.tenant_parts.specs.Queues.{changed_found, with_changed_actor, vacated_found, vacated_at}
 use Rattle.tenant_parts.specs.View.{AreBelow}
@@ -24,26 +24,26 @@ abbrev pub Actors : Type 0
 Actors = List (Entry ActorData)
 
 -- one seat
-part_under-with_vacated_seat : (n m : ℕ) (h : Option Hand) (es : Actors) → (n ≡ m → ⊥) → part_under n (with_vacated_seat m h es) ≡ part_under n es
+part_under-with_vacated_seat : (n m : ℕ) (h : Option WorkInHand) (es : Actors) → (n ≡ m → ⊥) → part_under n (with_vacated_seat m h es) ≡ part_under n es
 part_under-with_vacated_seat n m None es apart = part_under-without-apart n m es apart
 part_under-with_vacated_seat n m (Some h) es apart = part_under-with_part-apart n m _ es apart
 
-with_part-with_vacated_seat : (n m : ℕ) (x : ActorData) (h : Option Hand) (es : Actors) → (n ≡ m → ⊥)
+with_part-with_vacated_seat : (n m : ℕ) (x : ActorData) (h : Option WorkInHand) (es : Actors) → (n ≡ m → ⊥)
     → with_part n x (with_vacated_seat m h es) ≡ with_vacated_seat m h (with_part n x es)
 with_part-with_vacated_seat n m x None es apart = with_part-without-apart n m x es apart
 with_part-with_vacated_seat n m x (Some h) es apart = with_part-with_part-apart n m x _ es apart
 
-without-with_vacated_seat : (n m : ℕ) (h : Option Hand) (es : Actors) → (n ≡ m → ⊥)
+without-with_vacated_seat : (n m : ℕ) (h : Option WorkInHand) (es : Actors) → (n ≡ m → ⊥)
     → without n (with_vacated_seat m h es) ≡ with_vacated_seat m h (without n es)
 without-with_vacated_seat n m None es apart = without-without n m es
 without-with_vacated_seat n m (Some h) es apart = sym (with_part-without-apart m n _ es (λ same. apart (sym same)))
 
-with_vacated_seat-with_vacated_seat : (n m : ℕ) (h k : Option Hand) (es : Actors) → (n ≡ m → ⊥)
+with_vacated_seat-with_vacated_seat : (n m : ℕ) (h k : Option WorkInHand) (es : Actors) → (n ≡ m → ⊥)
     → with_vacated_seat n h (with_vacated_seat m k es) ≡ with_vacated_seat m k (with_vacated_seat n h es)
 with_vacated_seat-with_vacated_seat n m None k es apart = without-with_vacated_seat n m k es apart
 with_vacated_seat-with_vacated_seat n m (Some h) k es apart = with_part-with_vacated_seat n m _ k es apart
 
-with_vacated_seat-added : (n m : ℕ) (x : ActorData) (h : Option Hand) (es : Actors) → (n ≡ m → ⊥)
+with_vacated_seat-added : (n m : ℕ) (x : ActorData) (h : Option WorkInHand) (es : Actors) → (n ≡ m → ⊥)
     → with_vacated_seat n h (es ++ entry m x ∷ []) ≡ with_vacated_seat n h es ++ entry m x ∷ []
 with_vacated_seat-added n m x None es apart = without-added n m x es apart
 with_vacated_seat-added n m x (Some h) es apart = with_part-added n m x _ es apart
@@ -161,7 +161,7 @@ below-left : (m n : ℕ) (o : Option ActorData) (es : Actors) → AreBelow m es 
 below-left m n None es below = below
 below-left m n (Some x) es below = by x.hand
   where
-    by : (h : Option Hand) → AreBelow m (with_vacated_seat n h es)
+    by : (h : Option WorkInHand) → AreBelow m (with_vacated_seat n h es)
     by None = below-without m n es below
     by (Some h) = below-with_part m n _ es below
 

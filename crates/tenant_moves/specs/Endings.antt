@@ -6,9 +6,9 @@ use Rattle.value_data.specs.Inside.View.{view}
 use Rattle.value_data.specs.declared.value.Value.{Value}
 use Rattle.server_rules.specs.Request as rules
 use Rattle.server_rules.specs.Moves.{Move}
-use Rattle.tenant_moves.specs.declared.news.News.{News}
+use Rattle.tenant_moves.specs.declared.effects.RequestEffects.{RequestEffects}
 use Rattle.tenant_moves.specs.declared.ending.After.{After}
-use Rattle.tenant_moves.specs.Told.{Tells, Adds}
+use Rattle.tenant_moves.specs.Told.{TellsMove, Adds}
 use Rattle.tenant_parts.specs.Printed.{IsPrintOf}
 
 abbrev pub are_none : Items → Bool
@@ -16,11 +16,11 @@ are_none no_items = true
 are_none (item d ds) = false
 
 -- of a file the last value is kept
-abbrev pub last_kept : Option Value → rules.Hand → rules.Hand
+abbrev pub last_kept : Option Value → rules.WorkInHand → rules.WorkInHand
 last_kept None h = h
 last_kept (Some v) h = record h { manner = rules.last_form (view v) }
 
-abbrev pub hand_after : rules.Hand → After → Option rules.Hand
+abbrev pub hand_after : rules.WorkInHand → After → Option rules.WorkInHand
 hand_after h After.Over = None
 hand_after h (After.Next namespace last) =
     Some (last_kept last (record h { running = None; namespace = arc_str_bytes namespace }))
@@ -36,11 +36,11 @@ abbrev pub PrintsLast : Option (List ℕ) → rules.Manner → Type 0
 PrintsLast printed m = IfSome printed (IsPrintOfLast m)
 
 -- a form of this request ended by this move
-pub record EndsForm (m : Move) (h : rules.Hand) (made : News × After) : Type 0 where
-  pub told : Tells m made.0
+pub record EndsForm (m : Move) (h : rules.WorkInHand) (made : RequestEffects × After) : Type 0 where
+  pub told : TellsMove m made.0
   pub hand : hand_after h made.1 ≡ m.hand
 
 -- the same, where something was told before
-pub record EndsFormBy (m : Move) (h : rules.Hand) (old new : News) (after : After) : Type 0 where
+pub record EndsFormBy (m : Move) (h : rules.WorkInHand) (old new : RequestEffects) (after : After) : Type 0 where
   pub told : Adds m old new
   pub hand : hand_after h after ≡ m.hand

@@ -5,11 +5,11 @@ use Rattle.repl_sessions.specs.Named.{NamedSessions}
 use Rattle.server_rules.specs.Ground.{Ground}
 use Rattle.server_rules.specs.Hearing.{new_messages, taken_in}
 use Rattle.ref_table.specs.Numbered.{Entry}
-use Rattle.server_rules.specs.Tenant.{ActorData, Quiet}
+use Rattle.server_rules.specs.Tenant.{ActorData, TenantState}
 use Rattle.tenant_moves.specs.Holds.{PartsStandFor}
 use Rattle.tenant_moves.specs.HasReadAll.{HasReadAll}
 
-pub record IsHeard (g : Ground) (t : ℕ) (q : Quiet) (piece : List ℕ) (count : ℕ)
+pub record IsHeard (g : Ground) (t : ℕ) (q : TenantState) (piece : List ℕ) (count : ℕ)
     (d : Decoder) (s : NamedSessions) (es : List (Entry ActorData)) (waiting : List (List ℕ))
     : Type 0 where
   pub messages : count ≡ length (new_messages g.readings q.heard piece)

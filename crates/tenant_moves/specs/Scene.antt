@@ -8,7 +8,7 @@ use Rattle.repl_replies.specs.Replies.{bytes_of}
 use Rattle.server_rules.specs.Ground.{Ground}
 use Rattle.ref_table.specs.Numbered.{Entry}
 use Rattle.server_rules.specs.Operating.{ids_for}
-use Rattle.server_rules.specs.Tenant.{ActorData, Quiet, seat_of}
+use Rattle.server_rules.specs.Tenant.{ActorData, TenantState, seat_of}
 use Rattle.server_rules.specs.declared.actor.Actor.{Actor}
 use Rattle.tenant_parts.specs.Queues.{vacated_at}
 use Rattle.tenant_parts.specs.View.{actors_view}
@@ -44,7 +44,7 @@ all_vacated (n ∷ ns) es = all_vacated ns (vacated_at (seat_of (Actor.Session n
 
 -- once those that are leaving have left, and what was made waits behind what waits, the tenant is
 -- that of the rules
-pub record Drafts (g : Ground) (t : ℕ) (q : Quiet) (waiting : List (List ℕ)) (x : Scene)
+pub record Drafts (g : Ground) (t : ℕ) (q : TenantState) (waiting : List (List ℕ)) (x : Scene)
     : Type 0 where
   pub ids : x.sessions.ids ≡ ids_for g t
   pub sessions : q.sessions ≡ remaining_sessions x.leaving x.sessions.sessions
@@ -53,8 +53,8 @@ pub record Drafts (g : Ground) (t : ℕ) (q : Quiet) (waiting : List (List ℕ))
   pub given : (n : ℕ) → is_leaving x.leaving n ≡ true → n < x.sessions.sessions.opened
 
 -- what was so by the rules comes to what this makes of it
-abbrev pub FollowsRules : (Ground → ℕ → Quiet → Quiet) → Scene → Scene → Type 0
-FollowsRules step old new = (g : Ground) (t : ℕ) (q : Quiet) (waiting : List (List ℕ))
+abbrev pub FollowsRules : (Ground → ℕ → TenantState → TenantState) → Scene → Scene → Type 0
+FollowsRules step old new = (g : Ground) (t : ℕ) (q : TenantState) (waiting : List (List ℕ))
     → Drafts g t q waiting old → Drafts g t (step g t q) waiting new
 
 -- what was changed can be undone, and the next session finds its seat free

@@ -17,20 +17,20 @@ use Rattle.tenant_parts.specs.View.{hand_view}
 use Rattle.tenant_moves.specs.declared.starting.Begun.{Begun}
 use Rattle.tenant_moves.specs.declared.starting.NextForm.{NextForm}
 use Rattle.tenant_moves.specs.declared.starting.BegunRequest.{BegunRequest}
-use Rattle.tenant_moves.specs.Told.{Tells}
+use Rattle.tenant_moves.specs.Told.{TellsMove}
 
 abbrev pub first_item : Items → Option Datum
 first_item no_items = None
 first_item (item d ds) = Some d
 
 -- the first of the forms runs, as this job
-abbrev pub with_run : rules.Hand → JobData → rules.Hand
+abbrev pub with_run : rules.WorkInHand → JobData → rules.WorkInHand
 with_run h job = record h {
   running = Some (record { job = job; trace = [] });
   forms = behind_first h.forms;
 }
 
-abbrev pub hand_begun : rules.Hand → Option Begun → Option rules.Hand
+abbrev pub hand_begun : rules.WorkInHand → Option Begun → Option rules.WorkInHand
 hand_begun h None = None
 hand_begun h (Some b) = Some (with_run h (job_view b.job))
 
@@ -43,13 +43,13 @@ abbrev pub given_job : Option Begun → Option Job
 given_job = option_map (λ b. b.given)
 
 -- the first of its forms, which is this, begins
-abbrev pub form_begun_with : Ground → rules.Hand → StateData → Datum → Started
+abbrev pub form_begun_with : Ground → rules.WorkInHand → StateData → Datum → Started
 form_begun_with g h state d =
     let job = form_job g h (form d) in
     record { move = in_hand (with_run h job) state; answer = form_begun job }
 
 -- no form of it is left
-abbrev pub request_over : rules.Hand → StateData → Started
+abbrev pub request_over : rules.WorkInHand → StateData → Started
 request_over h state =
     record { move = closing_move h.origin h.manner h.fault state; answer = request_answered }
 
@@ -63,13 +63,13 @@ not_found origin state =
     }
 
 -- the request in hand goes on by this start
-pub record GoesOn (s : Started) (h : rules.Hand) (next : NextForm) : Type 0 where
-  pub told : Tells s.move next.news
+pub record StartsForm (s : Started) (h : rules.WorkInHand) (next : NextForm) : Type 0 where
+  pub told : TellsMove s.move next.effects
   pub hand : hand_begun h next.begun ≡ s.move.hand
   pub answer : answer_given (given_job next.begun) ≡ s.answer
 
 -- a request is taken up by this start
 pub record BeginsRequest (s : Started) (made : BegunRequest) : Type 0 where
-  pub told : Tells s.move made.news
+  pub told : TellsMove s.move made.effects
   pub hand : option_map hand_view made.hand ≡ s.move.hand
   pub answer : answer_given made.given ≡ s.answer

@@ -11,13 +11,13 @@ ghost use Rattle.tenant_parts.specs.View.{hand_view};
 ghost use Rattle.tenant_moves.specs.Told.{told_state};
 ghost use Rattle.tenant_moves.specs.Endings.{are_none, last_kept, hand_after, EndsForm, EndsFormBy};
 
-use crate::news::News;
+use crate::effects::RequestEffects;
 use repl_asks::{End, Finished};
 use repl_sessions::SessionState;
 use repl_values::{Fault, Value, copy, copy_text};
 use std::alloc::{AllocError, Global};
 use std::sync::ArcStr;
-use tenant_parts::{Hand, Manner};
+use tenant_parts::{WorkInHand, Manner};
 
 /// What of the request in hand is still to do behind a form.
 #[derive(Drop)]
@@ -35,94 +35,94 @@ pub enum After {
 #[tactic(auto, unfolding(server_rules::specs::Moves::form_ended))]
 pub fn form_end(
     alloc: Global,
-    hand: &Hand,
+    hand: &WorkInHand,
     finished: &Finished,
     printed: Option<&str>,
     state: SessionState,
-) -> Result<(News, After), AllocError>
+) -> Result<(RequestEffects, After), AllocError>
     requires { PrintsEnd (option_copied printed) (finished_view finished.now) }
     ensures { IfOk result (EndsForm
         (form_ended (hand_view hand.now) (finished_view finished.now) (state_view state))
         (hand_view hand.now)) }
 {
-    let mut news = News::new(alloc, state);
-    let after = end_form(&mut news, hand, finished, printed)?;
-    Ok((news, after))
+    let mut effects = RequestEffects::new(alloc, state);
+    let after = end_form(&mut effects, hand, finished, printed)?;
+    Ok((effects, after))
 }
 
 fn end_form(
-    news: &mut News,
-    hand: &Hand,
+    effects: &mut RequestEffects,
+    hand: &WorkInHand,
     finished: &Finished,
     printed: Option<&str>,
 ) -> Result<After, AllocError>
     requires { PrintsEnd (option_copied printed) (finished_view finished.now) }
     ensures { IfOk result (EndsFormBy
-        (form_ended_as (hand_view hand.now) (finished_view finished.now) (told_state news.old)
-        (hand_view hand.now).manner) (hand_view hand.now) news.old news.new) }
+        (form_ended_as (hand_view hand.now) (finished_view finished.now) (told_state effects.old)
+        (hand_view hand.now).manner) (hand_view hand.now) effects.old effects.new) }
 {
     match &hand.manner {
-        Manner::EachForm => end_here(news, hand, finished, printed),
-        Manner::EachFormElsewhere => end_elsewhere(news, hand, finished, printed),
+        Manner::EachForm => end_here(effects, hand, finished, printed),
+        Manner::EachFormElsewhere => end_elsewhere(effects, hand, finished, printed),
         Manner::LastForm(_) => match finished.end() {
-            End::Value(value) => end_with_value(news, hand, finished, value, printed),
-            End::Fault(fault) => end_with_fault(news, hand, finished, fault),
+            End::Value(value) => end_with_value(effects, hand, finished, value, printed),
+            End::Fault(fault) => end_with_fault(effects, hand, finished, fault),
         },
-        Manner::OfAction(session) => end_action(news, hand, finished, *session),
+        Manner::OfAction(session) => end_action(effects, hand, finished, *session),
     }
 }
 
 // Of an action what it printed is told, and nothing else.
 fn end_action(
-    news: &mut News,
-    hand: &Hand,
+    effects: &mut RequestEffects,
+    hand: &WorkInHand,
     finished: &Finished,
     session: Option<u64>,
 ) -> Result<After, AllocError>
     ensures { IfOk result (λ after. EndsFormBy
-        (form_ended_as (hand_view hand.now) (finished_view finished.now) (told_state news.old)
-        (of_action session)) (hand_view hand.now) news.old news.new after) }
+        (form_ended_as (hand_view hand.now) (finished_view finished.now) (told_state effects.old)
+        (of_action session)) (hand_view hand.now) effects.old effects.new after) }
 {
-    news.batch.add_output(&*hand.origin, finished.text())?;
+    effects.batch.add_output(&*hand.origin, finished.text())?;
     Ok(After::Over)
 }
 
 fn end_here(
-    news: &mut News,
-    hand: &Hand,
+    effects: &mut RequestEffects,
+    hand: &WorkInHand,
     finished: &Finished,
     printed: Option<&str>,
 ) -> Result<After, AllocError>
     requires { PrintsEnd (option_copied printed) (finished_view finished.now) }
     ensures { IfOk result (λ after. EndsFormBy
-        (form_ended_as (hand_view hand.now) (finished_view finished.now) (told_state news.old)
-        each_form) (hand_view hand.now) news.old news.new after) }
+        (form_ended_as (hand_view hand.now) (finished_view finished.now) (told_state effects.old)
+        each_form) (hand_view hand.now) effects.old effects.new after) }
 {
-    news.batch.add_end(&*hand.origin, finished, printed)?;
-    news.note_result(finished.end())?;
-    news.state.enter(copy_text(finished.namespace())?);
-    go_on_behind(news, hand, finished)
+    effects.batch.add_end(&*hand.origin, finished, printed)?;
+    effects.note_result(finished.end())?;
+    effects.state.enter(copy_text(finished.namespace())?);
+    go_on_behind(effects, hand, finished)
 }
 
 fn end_elsewhere(
-    news: &mut News,
-    hand: &Hand,
+    effects: &mut RequestEffects,
+    hand: &WorkInHand,
     finished: &Finished,
     printed: Option<&str>,
 ) -> Result<After, AllocError>
     requires { PrintsEnd (option_copied printed) (finished_view finished.now) }
     ensures { IfOk result (λ after. EndsFormBy
-        (form_ended_as (hand_view hand.now) (finished_view finished.now) (told_state news.old)
-        each_form_elsewhere) (hand_view hand.now) news.old news.new after) }
+        (form_ended_as (hand_view hand.now) (finished_view finished.now) (told_state effects.old)
+        each_form_elsewhere) (hand_view hand.now) effects.old effects.new after) }
 {
-    news.batch.add_end(&*hand.origin, finished, printed)?;
-    news.note_result(finished.end())?;
-    go_on_behind(news, hand, finished)
+    effects.batch.add_end(&*hand.origin, finished, printed)?;
+    effects.note_result(finished.end())?;
+    go_on_behind(effects, hand, finished)
 }
 
 fn end_with_value(
-    news: &mut News,
-    hand: &Hand,
+    effects: &mut RequestEffects,
+    hand: &WorkInHand,
     finished: &Finished,
     value: &Value,
     printed: Option<&str>,
@@ -130,14 +130,14 @@ fn end_with_value(
     requires { PrintsValue (option_copied printed) (view value.now) }
     ensures { IfOk result (λ after. EndsFormBy
         (form_loaded (hand_view hand.now) (finished_view finished.now) (Ok (view value.now))
-        (told_state news.old)) (hand_view hand.now) news.old news.new after) }
+        (told_state effects.old)) (hand_view hand.now) effects.old effects.new after) }
 {
-    news.batch.add_output(&*hand.origin, finished.text())?;
+    effects.batch.add_output(&*hand.origin, finished.text())?;
     let namespace = copy_text(finished.namespace())?;
     let last = copy(value)?;
     if is_last(hand) {
         let manner = Manner::LastForm(last);
-        news.end_request(&hand.origin, &manner, &hand.fault, printed)?;
+        effects.end_request(&hand.origin, &manner, &hand.fault, printed)?;
         return Ok(After::Over);
     }
     Ok(After::Next {
@@ -147,32 +147,32 @@ fn end_with_value(
 }
 
 fn end_with_fault(
-    news: &mut News,
-    hand: &Hand,
+    effects: &mut RequestEffects,
+    hand: &WorkInHand,
     finished: &Finished,
     fault: &Fault,
 ) -> Result<After, AllocError>
     ensures { IfOk result (λ after. EndsFormBy
         (form_loaded (hand_view hand.now) (finished_view finished.now) (Err (failure_of fault.now))
-        (told_state news.old)) (hand_view hand.now) news.old news.new after) }
+        (told_state effects.old)) (hand_view hand.now) effects.old effects.new after) }
 {
-    news.batch.add_output(&*hand.origin, finished.text())?;
-    news.end_by_fault(&hand.origin, fault)?;
+    effects.batch.add_output(&*hand.origin, finished.text())?;
+    effects.end_by_fault(&hand.origin, fault)?;
     Ok(After::Over)
 }
 
 // Behind a form whose end was told: the next form comes, or the request is done.
-fn go_on_behind(news: &mut News, hand: &Hand, finished: &Finished) -> Result<After, AllocError>
+fn go_on_behind(effects: &mut RequestEffects, hand: &WorkInHand, finished: &Finished) -> Result<After, AllocError>
     ensures { IfOk result (λ after. EndsFormBy
         (going_on (record (hand_view hand.now) {
           namespace =
               (finished_view finished.now).namespace;
         })
-        (hand_view hand.now).forms (told_state news.old))
-        (hand_view hand.now) news.old news.new after) }
+        (hand_view hand.now).forms (told_state effects.old))
+        (hand_view hand.now) effects.old effects.new after) }
 {
     if is_last(hand) {
-        news.end_request(&hand.origin, &hand.manner, &hand.fault, None)?;
+        effects.end_request(&hand.origin, &hand.manner, &hand.fault, None)?;
         return Ok(After::Over);
     }
     Ok(After::Next {
@@ -182,14 +182,14 @@ fn go_on_behind(news: &mut News, hand: &Hand, finished: &Finished) -> Result<Aft
 }
 
 // Whether no form is left.
-fn is_last(hand: &Hand) -> bool
+fn is_last(hand: &WorkInHand) -> bool
     ensures { result ≡ are_none (hand_view hand.now).forms }
 {
     hand.forms.is_empty()
 }
 
 /// The request in hand behind a form, if there is more of it to do.
-pub fn go_on(hand: Hand, after: After) -> Option<Hand>
+pub fn go_on(hand: WorkInHand, after: After) -> Option<WorkInHand>
     ensures { option_map hand_view result ≡ hand_after (hand_view hand) after }
 {
     match after {
@@ -198,7 +198,7 @@ pub fn go_on(hand: Hand, after: After) -> Option<Hand>
     }
 }
 
-fn hand_between_forms(mut hand: Hand, namespace: ArcStr, last: Option<Value>) -> Hand
+fn hand_between_forms(mut hand: WorkInHand, namespace: ArcStr, last: Option<Value>) -> WorkInHand
     ensures { Some (hand_view result) ≡ hand_after (hand_view hand) (After.Next namespace last) }
 {
     hand.running = None;
@@ -206,7 +206,7 @@ fn hand_between_forms(mut hand: Hand, namespace: ArcStr, last: Option<Value>) ->
     with_last(hand, last)
 }
 
-fn with_last(mut hand: Hand, last: Option<Value>) -> Hand
+fn with_last(mut hand: WorkInHand, last: Option<Value>) -> WorkInHand
     ensures { hand_view result ≡ last_kept last (hand_view hand) }
 {
     match last {

@@ -3,7 +3,7 @@ ghost use Rattle.std.specs.Prelude.{◌≡◌, ◌++◌, ℕ, map, Ok, OnOk, OnE
 ghost use Rattle.std.specs.BTreeSet.{keys};
 ghost use Rattle.bencode_wire.specs.Inside.View.{tree_view};
 ghost use Rattle.server_rules.specs.Ground.{Ground};
-ghost use Rattle.server_rules.specs.Tenant.{Quiet};
+ghost use Rattle.server_rules.specs.Tenant.{TenantState};
 ghost use Rattle.tenant_parts.specs.View.{actors_view};
 ghost use Rattle.tenant_parts.specs.Replies.{made_bytes, waiting_bytes};
 ghost use Rattle.tenant_moves.specs.Holds.{PartsStandFor, AreSeated};
@@ -34,7 +34,7 @@ pub fn handle_messages(
     outbox: &mut Outbox,
 ) -> Result<(), AllocError>
     requires { AreSeated sessions.old (actors_view actors.old) }
-    ensures taken { (g : Ground) (t : ℕ) (q : Quiet)
+    ensures taken { (g : Ground) (t : ℕ) (q : TenantState)
         → PartsStandFor g t q sessions.old (actors_view actors.old) (waiting_bytes outbox.old)
         → OnOk result (PartsStandFor g t (with_piece g t (map tree_view messages.items) is_broken q)
         sessions.new (actors_view actors.new) (waiting_bytes outbox.new)) }

@@ -6,7 +6,7 @@ ghost use Rattle.bencode_wire.specs.Inside.Decoder.{ready_of, fault_of, DecoderS
 ghost use Rattle.bencode_wire.specs.Inside.Return.{CanReturn};
 ghost use Rattle.server_rules.specs.Ground.{Ground};
 ghost use Rattle.server_rules.specs.Readings.{AreRight};
-ghost use Rattle.server_rules.specs.Tenant.{Quiet};
+ghost use Rattle.server_rules.specs.Tenant.{TenantState};
 ghost use Rattle.tenant_parts.specs.View.{actors_view};
 ghost use Rattle.tenant_parts.specs.Replies.{waiting_bytes};
 ghost use Rattle.tenant_moves.specs.Heard.{IsHeard};
@@ -34,7 +34,7 @@ pub fn hear(
     requires ready { ready_of decoder.old ≡ [] }
     requires sound { fault_of decoder.old ≡ None }
     requires seated { AreSeated sessions.old (actors_view actors.old) }
-    ensures heard { (g : Ground) (t : ℕ) (q : Quiet) → AreRight g.readings
+    ensures heard { (g : Ground) (t : ℕ) (q : TenantState) → AreRight g.readings
         → HasReadAll g q.heard decoder.old
         → PartsStandFor g t q sessions.old (actors_view actors.old) (waiting_bytes outbox.old)
         → IfOk result (λ count. IsHeard g t q piece.now count

@@ -24,12 +24,12 @@ use repl_values::{Fault, Value, copy_text};
 use std::alloc::{AllocError, Global};
 use std::collections::VecDeque;
 use std::sync::{Arc, ArcStr};
-use tenant_parts::{Aside, Hand, Manner, ProgramText, Waiting};
+use tenant_parts::{Aside, WorkInHand, Manner, ProgramText, Waiting};
 
 /// A request whose text was read.
 #[derive(Drop)]
 pub enum Opened {
-    Hand(Hand),
+    WorkInHand(WorkInHand),
     /// It names a namespace that is not there.
     NamespaceNotFound,
 }
@@ -125,7 +125,7 @@ fn open_in(
     readings_are_unique();
     let ProgramForms { forms, fault } = aside.forms_of(alloc, text.as_str())?;
     let fault = text_fault(alloc, fault)?;
-    Ok(Opened::Hand(Hand {
+    Ok(Opened::WorkInHand(WorkInHand {
         origin: Arc::try_clone(origin)?,
         manner,
         namespace: copy_text(namespace)?,

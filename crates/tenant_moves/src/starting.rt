@@ -11,9 +11,9 @@ ghost use Rattle.value_data.specs.Inside.View.{view};
 ghost use Rattle.repl_replies.specs.Inside.View.{origin_view};
 ghost use Rattle.tenant_parts.specs.View.{hand_view, waiting_view};
 ghost use Rattle.tenant_moves.specs.Starts.{first_item, form_begun_with, request_over, with_run};
-ghost use Rattle.tenant_moves.specs.Starts.{not_found, GoesOn, BeginsRequest};
+ghost use Rattle.tenant_moves.specs.Starts.{not_found, StartsForm, BeginsRequest};
 
-use crate::news::News;
+use crate::effects::RequestEffects;
 use crate::request::{Opened, open_request};
 use name_spaces::Spaces;
 use repl_asks::{Job, Work};
@@ -21,7 +21,7 @@ use repl_replies::{Body, Origin};
 use repl_sessions::SessionState;
 use repl_values::{Value, copy, copy_text};
 use std::alloc::{AllocError, Global};
-use tenant_parts::{Aside, Hand, Run, Waiting};
+use tenant_parts::{Aside, WorkInHand, Run, Waiting};
 
 /// A form that begins: its job, and the same once more to be given out.
 #[derive(Drop)]
@@ -33,7 +33,7 @@ pub struct Begun {
 /// What a request in hand comes to where it goes on: its next form begins, or it is done.
 #[derive(Drop)]
 pub struct NextForm {
-    pub news: News,
+    pub effects: RequestEffects,
     pub begun: Option<Begun>,
 }
 
@@ -41,8 +41,8 @@ pub struct NextForm {
 /// to be given out.
 #[derive(Drop)]
 pub struct BegunRequest {
-    pub news: News,
-    pub hand: Option<Hand>,
+    pub effects: RequestEffects,
+    pub hand: Option<WorkInHand>,
     pub given: Option<Job>,
 }
 
@@ -51,10 +51,10 @@ pub struct BegunRequest {
 pub fn next_form(
     alloc: Global,
     retries: u32,
-    hand: &Hand,
+    hand: &WorkInHand,
     state: SessionState,
 ) -> Result<NextForm, AllocError>
-    ensures { (g : Ground) → retries ≡ g.retries → IfOk result (GoesOn
+    ensures { (g : Ground) → retries ≡ g.retries → IfOk result (StartsForm
         (next_begun g (hand_view hand.now) (state_view state) (hand_view hand.now).forms)
         (hand_view hand.now)) }
 {
@@ -64,7 +64,7 @@ pub fn next_form(
     }
 }
 
-fn first_form(hand: &Hand) -> Option<&Value>
+fn first_form(hand: &WorkInHand) -> Option<&Value>
     ensures { option_map (λ v. view v.now) result ≡ first_item (hand_view hand.now).forms }
 {
     hand.forms.front()
@@ -73,32 +73,32 @@ fn first_form(hand: &Hand) -> Option<&Value>
 fn run_form(
     alloc: Global,
     retries: u32,
-    hand: &Hand,
+    hand: &WorkInHand,
     form: &Value,
     state: SessionState,
 ) -> Result<NextForm, AllocError>
-    ensures { (g : Ground) → retries ≡ g.retries → IfOk result (GoesOn
+    ensures { (g : Ground) → retries ≡ g.retries → IfOk result (StartsForm
         (form_begun_with g (hand_view hand.now) (state_view state) (view form.now))
         (hand_view hand.now)) }
 {
-    let news = News::new(alloc, state);
+    let effects = RequestEffects::new(alloc, state);
     let job = job_of(retries, hand, form)?;
     let given = job_of(retries, hand, form)?;
     let begun = Some(Begun { job, given });
-    Ok(NextForm { news, begun })
+    Ok(NextForm { effects, begun })
 }
 
 // No form is left.
-fn end_request(alloc: Global, hand: &Hand, state: SessionState) -> Result<NextForm, AllocError>
-    ensures { IfOk result (GoesOn (request_over (hand_view hand.now) (state_view state))
+fn end_request(alloc: Global, hand: &WorkInHand, state: SessionState) -> Result<NextForm, AllocError>
+    ensures { IfOk result (StartsForm (request_over (hand_view hand.now) (state_view state))
         (hand_view hand.now)) }
 {
-    let mut news = News::new(alloc, state);
-    news.end_request(&hand.origin, &hand.manner, &hand.fault, None)?;
-    Ok(NextForm { news, begun: None })
+    let mut effects = RequestEffects::new(alloc, state);
+    effects.end_request(&hand.origin, &hand.manner, &hand.fault, None)?;
+    Ok(NextForm { effects, begun: None })
 }
 
-fn job_of(retries: u32, hand: &Hand, form: &Value) -> Result<Job, AllocError>
+fn job_of(retries: u32, hand: &WorkInHand, form: &Value) -> Result<Job, AllocError>
     ensures { (g : Ground) → retries ≡ g.retries → IfOk result (λ job. job_view job
         ≡ form_job g (hand_view hand.now) (jobs.form (view form.now))) }
 {
@@ -110,7 +110,7 @@ fn job_of(retries: u32, hand: &Hand, form: &Value) -> Result<Job, AllocError>
 }
 
 /// The request in hand once its next form runs, as this job.
-pub fn begin(alloc: Global, mut hand: Hand, job: Job) -> Hand
+pub fn begin(alloc: Global, mut hand: WorkInHand, job: Job) -> WorkInHand
     ensures { hand_view result ≡ with_run (hand_view hand) (job_view job) }
 {
     drop(hand.forms.pop_front());
@@ -137,7 +137,7 @@ pub fn begin_request(
         (state_view state) (waiting_view waiting.now).text)) }
 {
     match open_request(alloc, spaces, waiting, &state, aside)? {
-        Opened::Hand(hand) => begin_hand(alloc, retries, hand, state),
+        Opened::WorkInHand(hand) => begin_hand(alloc, retries, hand, state),
         Opened::NamespaceNotFound => refuse(alloc, &*waiting.origin, state),
     }
 }
@@ -145,21 +145,21 @@ pub fn begin_request(
 fn begin_hand(
     alloc: Global,
     retries: u32,
-    hand: Hand,
+    hand: WorkInHand,
     state: SessionState,
 ) -> Result<BegunRequest, AllocError>
     ensures { (g : Ground) → retries ≡ g.retries → IfOk result (BeginsRequest
         (next_begun g (hand_view hand) (state_view state) (hand_view hand).forms)) }
 {
-    let NextForm { news, begun } = next_form(alloc, retries, &hand, state)?;
+    let NextForm { effects, begun } = next_form(alloc, retries, &hand, state)?;
     Ok(match begun {
         Some(Begun { job, given }) => BegunRequest {
-            news,
+            effects,
             hand: Some(begin(alloc, hand, job)),
             given: Some(given),
         },
         None => BegunRequest {
-            news,
+            effects,
             hand: None,
             given: None,
         },
@@ -169,10 +169,10 @@ fn begin_hand(
 fn refuse(alloc: Global, origin: &Origin, state: SessionState) -> Result<BegunRequest, AllocError>
     ensures { IfOk result (BeginsRequest (not_found (origin_view origin.now) (state_view state))) }
 {
-    let mut news = News::new(alloc, state);
-    news.batch.add(origin, Body::NamespaceNotFound)?;
+    let mut effects = RequestEffects::new(alloc, state);
+    effects.batch.add(origin, Body::NamespaceNotFound)?;
     Ok(BegunRequest {
-        news,
+        effects,
         hand: None,
         given: None,
     })

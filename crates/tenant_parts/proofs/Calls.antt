@@ -19,7 +19,7 @@ use Rattle.ref_table.specs.Commit.{concluded_commit, checked_commit, commit_by}
 use Rattle.ref_table.specs.Calls.{Call, nothing, makes, begins, leaves_attempt, reads, counts}
 use Rattle.ref_table.specs.Calls.{inside, outside}
 use Rattle.ref_table.specs.Calls.{tells_least, tells_most, sets_least, sets_most, commits}
-use Rattle.server_rules.specs.Asking.{send_call}
+use Rattle.server_rules.specs.Asking.{may_send_call}
 use Rattle.ref_table.specs.Performed.{as_was}
 use Rattle.ref_table.specs.Calls.{gives_up, performed_begin, read_at, read_by, bound_set}
 use Rattle.ref_table.specs.Calls.{given_up, performed}
@@ -286,7 +286,7 @@ bound-points name (tenant t) f s (Some r) = (with_changed_ref-same name f s).poi
 
 -- whether something may be sent is told of no ref
 pub send-told : (seat : ℕ) (s : Store)
-    → as_was s (performed s (send_call seat)).told ≡ performed s (send_call seat)
+    → as_was s (performed s (may_send_call seat)).told ≡ performed s (may_send_call seat)
 send-told seat s = by (seat == 0) where
   call_by : Bool → Call
   call_by b = if b then nothing else inside seat

@@ -13,7 +13,7 @@ use Rattle.std.proofs.lemmas.Cmp.{ranked}
 use Rattle.std.proofs.lemmas.Map.Keys.{sorted_head, sorted_tail}
 use Rattle.server_rules.specs.Machine.Ready.{has_waiting, may_begin}
 use Rattle.ref_table.specs.Numbered.{Entry, part_under}
-use Rattle.server_rules.specs.Request.{Waiting, Hand}
+use Rattle.server_rules.specs.Request.{Waiting, WorkInHand}
 use Rattle.server_rules.specs.Tenant.{ActorData, actor_at, seat_of}
 use Rattle.server_rules.specs.declared.actor.Actor.{Actor}
 use Rattle.tenant_parts.specs.Busy.{is_busy, passes}
@@ -252,7 +252,7 @@ first-listed test ks es up rise covers =
     ∙ ap (option_map (λ e. actor_at e.number)) (sym (find-first (λ e. test e.part) es))
 
 -- an actor that has something to begin has something to do
-busy-begins : (ws : List Waiting) (h : Option Hand) → may_begin ws h ≡ true
+busy-begins : (ws : List Waiting) (h : Option WorkInHand) → may_begin ws h ≡ true
     → (is_some h || has_waiting ws) ≡ true
 busy-begins ws None begins = begins
 busy-begins ws (Some h) begins = refl

@@ -8,7 +8,7 @@ use Rattle.std.specs.BTreeSet.{BTreeSet, contains, Updates}
 use Rattle.std.proofs.lemmas.Bool.{eqb-true, ne_eqb}
 use Rattle.ref_table.specs.Numbered.{Entry, entry, part_under, with_part, without}
 use Rattle.server_rules.specs.Machine.Ready.{has_waiting}
-use Rattle.server_rules.specs.Request.{Waiting, Hand}
+use Rattle.server_rules.specs.Request.{Waiting, WorkInHand}
 use Rattle.server_rules.specs.Tenant.{ActorData, actor_at, seat_of}
 use Rattle.server_rules.specs.declared.actor.Actor.{Actor}
 use Rattle.tenant_parts.specs.Busy.{is_busy, passes}
@@ -281,7 +281,7 @@ on-err (Ok x) a = tt
 on-err (Err e) a = a
 
 -- the newest request is taken back
-busy-back : (ws : List Waiting) (h : Option Hand)
+busy-back : (ws : List Waiting) (h : Option WorkInHand)
     → (is_some h || has_waiting (take (length ws - 1) ws)) ≡ true
     → (is_some h || has_waiting ws) ≡ true
 busy-back ws (Some h) busy = refl

@@ -9,14 +9,14 @@ use Rattle.std.proofs.lemmas.Map.Steps.{set_value_same}
 use Rattle.ref_table.specs.Numbered.{Entry, entry, part_under, with_part}
 use Rattle.server_rules.specs.Operating.{with_vacated_seat}
 use Rattle.server_rules.specs.Tenant.{actor_at}
-use Rattle.server_rules.specs.Request.{Waiting, Hand}
+use Rattle.server_rules.specs.Request.{Waiting, WorkInHand}
 use Rattle.server_rules.specs.Tenant.{ActorData, seat_of}
 use Rattle.server_rules.specs.declared.actor.Actor.{Actor}
 use Rattle.tenant_parts.specs.Queues.{changed_found, with_changed_actor, with_request}
 use Rattle.tenant_parts.specs.Queues.{without_newest}
 use Rattle.tenant_parts.specs.Queues.{vacated_found, vacated_at}
 use Rattle.tenant_parts.specs.View.{hand_view, actor_view}
-use Rattle.tenant_parts.specs.declared.request.Hand as code
+use Rattle.tenant_parts.specs.declared.request.WorkInHand as code
 use Rattle.tenant_parts.specs.declared.actor.ActorState.{ActorState}
 use Rattle.tenant_parts.proofs.EntryLaws.{found_first, replaced_first, part_under-with_part}
 use Rattle.tenant_parts.proofs.EntryLaws.{with_part-twice}
@@ -98,20 +98,20 @@ pub with_vacated_seat-seen : (a : Actor) (v : ActorState) (es : Entries) → loo
     → vacated_at (seat_of a) (seen es) ≡ with_vacated_seat (seat_of a) (actor_view v).hand (seen es)
 with_vacated_seat-seen a v es is = ap (vacated_found (seat_of a) (seen es)) (state-part_under a v es is)
 
-pub with_vacated_seat-closed : (n : ℕ) (o : Option Hand) (es : List (Entry ActorData)) → is_some o ≡ true
+pub with_vacated_seat-closed : (n : ℕ) (o : Option WorkInHand) (es : List (Entry ActorData)) → is_some o ≡ true
     → with_vacated_seat n o es ≡ with_part n (record { waiting = []; hand = o; is_closed = true }) es
 with_vacated_seat-closed n (Some h) es is = refl
 with_vacated_seat-closed n None es is = absurd (cc)
 
-pub with_vacated_seat-gone : (n : ℕ) (o : Option Hand) (es : List (Entry ActorData)) → o ≡ None
+pub with_vacated_seat-gone : (n : ℕ) (o : Option WorkInHand) (es : List (Entry ActorData)) → o ≡ None
     → with_vacated_seat n o es ≡ with_vacated_seat n None es
 with_vacated_seat-gone n o es none = ap (λ o. with_vacated_seat n o es) none
 
-pub still-some : (o : Option code.Hand) → is_some o ≡ true → is_some (option_map hand_view o) ≡ true
+pub still-some : (o : Option code.WorkInHand) → is_some o ≡ true → is_some (option_map hand_view o) ≡ true
 still-some (Some h) is = refl
 still-some None is = absurd (cc)
 
-pub still-none : (o : Option code.Hand) → is_some o ≡ false → option_map hand_view o ≡ None
+pub still-none : (o : Option code.WorkInHand) → is_some o ≡ false → option_map hand_view o ≡ None
 still-none (Some h) is = absurd (cc)
 still-none None is = refl
 

@@ -24,15 +24,15 @@ use Rattle.ref_table.specs.Calls.{tells_least, tells_most, sets_least, sets_most
 use Rattle.ref_table.specs.Calls.{gives_up, performed_begin, read_at, read_by, bound_set}
 use Rattle.ref_table.specs.Calls.{given_up, performed}
 use Rattle.ref_table.specs.Refs.{Refs, store_of, refs_after}
-use Rattle.tenant_parts.specs.Sound.{IsSound, AreSound, ReachesSound}
+use Rattle.tenant_parts.specs.Sound.{IsSoundRef, AreSound, ReachesSound}
 
 abbrev All : List Ref → Type 0
-All = AllByRecursion IsSound
+All = AllByRecursion IsSoundRef
 
 -- Changes of a ref
 
 abbrev pub Keeps : (Ref → Ref) → Type 0
-Keeps f = (r : Ref) → IsSound r → IsSound (f r)
+Keeps f = (r : Ref) → IsSoundRef r → IsSoundRef (f r)
 
 with_failed_read-keeps : Keeps with_failed_read
 with_failed_read-keeps r s = record { kept = s.kept; least = s.least; most = s.most; value = s.value }
@@ -46,7 +46,7 @@ most-keeps n intent_fits r s = record { kept = s.kept; least = s.least; most = i
 next-below : (k n m : ℕ) → nat_lt k n ≡ true → n < m → k + 1 < m
 next-below k n m less below = let first = ltb-true k n less in omega (arith, first, below)
 
-grown : (r : Ref) (b : Bool) → grows r ≡ b → IsSound r → (if b then r.kept + 1 else r.kept) < 2 ^ 63
+grown : (r : Ref) (b : Bool) → grows r ≡ b → IsSoundRef r → (if b then r.kept + 1 else r.kept) < 2 ^ 63
 grown r false is s = s.kept
 grown r true is s = by (nat_lt 0 r.faults) (nat_lt r.kept r.most) refl (nat_lt r.kept r.least) refl is
   where
@@ -72,25 +72,25 @@ changed-all f keeps n [] all = tt
 changed-all f keeps zero (r ∷ rs) all = (keeps r all.0, all.1)
 changed-all f keeps (suc n) (r ∷ rs) all = (all.0, changed-all f keeps n rs all.1)
 
-added-all : (rs : List Ref) (r : Ref) → All rs → IsSound r → All (rs ++ r ∷ [])
+added-all : (rs : List Ref) (r : Ref) → All rs → IsSoundRef r → All (rs ++ r ∷ [])
 added-all [] r all s = (s, tt)
 added-all (x ∷ rs) r all s = (all.0, added-all rs r all.1 s)
 
-got-sound : (rs : List Ref) (n : ℕ) (r : Ref) → All rs → slice_get rs n ≡ Some r → IsSound r
+got-sound : (rs : List Ref) (n : ℕ) (r : Ref) → All rs → slice_get rs n ≡ Some r → IsSoundRef r
 got-sound [] n r all e = absurd (cc)
 got-sound (x ∷ rs) zero r all e =
-    let same : x ≡ r = cc in subst IsSound same all.0
+    let same : x ≡ r = cc in subst IsSoundRef same all.0
 got-sound (x ∷ rs) (suc n) r all e = got-sound rs n r all.1 e
 
 -- what a tenant names
 pub ref_named-sound : (s : Store) (name : RefNameData) (r : Ref) → ReachesSound s
-    → ref_named name s ≡ Some r → IsSound r
+    → ref_named name s ≡ Some r → IsSoundRef r
 ref_named-sound s name r sound e = by name.owner e where
-  mine : (b : Bool) → (if b then slice_get s.mine.refs name.number else None) ≡ Some r → IsSound r
+  mine : (b : Bool) → (if b then slice_get s.mine.refs name.number else None) ≡ Some r → IsSoundRef r
   mine true e = got-sound s.mine.refs name.number r sound.1 e
   mine false e = absurd (cc)
 
-  by : (o : OwnerData) → ref_of o name.number s ≡ Some r → IsSound r
+  by : (o : OwnerData) → ref_of o name.number s ≡ Some r → IsSoundRef r
   by shared e = got-sound s.around.refs name.number r sound.0 e
   by (tenant t) e = mine (t == s.tenant) e
 

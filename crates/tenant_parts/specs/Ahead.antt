@@ -2,20 +2,20 @@
 use Rattle.std.specs.Prelude.{ℕ, Bool, true, false, List, [], ◌∷◌, Option, None, Some, option_and_then}
 use Rattle.value_data.specs.Datum.{Items, no_items, item}
 use Rattle.ref_table.specs.Numbered.{Entry, part_under}
-use Rattle.server_rules.specs.Request.{ProgramText, code, file, Waiting, Hand, Manner}
+use Rattle.server_rules.specs.Request.{ProgramText, code, file, Waiting, WorkInHand, Manner}
 use Rattle.server_rules.specs.Request.{each_form, each_form_elsewhere, last_form, of_action}
 use Rattle.server_rules.specs.Tenant.{ActorData, seat_of}
 use Rattle.server_rules.specs.declared.actor.Actor.{Actor}
 
-abbrev bytes_of : ProgramText → List ℕ
-bytes_of (code text ns) = text
-bytes_of (file text) = text
+abbrev program_bytes : ProgramText → List ℕ
+program_bytes (code text ns) = text
+program_bytes (file text) = text
 
 abbrev oldest_text : List Waiting → Option (List ℕ)
 oldest_text [] = None
-oldest_text (w ∷ ws) = Some (bytes_of w.text)
+oldest_text (w ∷ ws) = Some (program_bytes w.text)
 
-abbrev text_behind : Option Hand → List Waiting → Option (List ℕ)
+abbrev text_behind : Option WorkInHand → List Waiting → Option (List ℕ)
 text_behind None waiting = oldest_text waiting
 text_behind (Some h) waiting = None
 
@@ -30,7 +30,7 @@ told_in (last_form d) no_items = true
 told_in (last_form d) (item e es) = false
 told_in (of_action session) forms = false
 
-abbrev pub told_of : Option Hand → Bool
+abbrev pub told_of : Option WorkInHand → Bool
 told_of None = false
 told_of (Some h) = told_in h.manner h.forms
 

@@ -8,7 +8,7 @@ pub mod Replies
 pub mod Printed
 pub mod Aside
 pub mod Ahead
-pub mod Thrice
+pub mod AnswerCopies
 pub mod Attempts
 pub mod Sound
 pub mod Serving

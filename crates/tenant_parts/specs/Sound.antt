@@ -7,15 +7,15 @@ use Rattle.ref_table.specs.Store.{Store}
 use Rattle.ref_history.specs.Versioned.{Ref, newest}
 use Rattle.ref_table.specs.Refs.{Refs}
 
-pub record IsSound (r : Ref) : Type 0 where
+pub record IsSoundRef (r : Ref) : Type 0 where
   pub kept : r.kept < 2 ^ 63
   pub least : r.least < 2 ^ 63
   pub most : r.most < 2 ^ 63
   pub value : is_some (newest r.versions) ≡ true
 
 abbrev pub AreSound : Refs → Type 0
-AreSound r = (owner : OwnerData) → AllByRecursion IsSound (r.owned owner)
+AreSound r = (owner : OwnerData) → AllByRecursion IsSoundRef (r.owned owner)
 
 -- those that a tenant reaches
 abbrev pub ReachesSound : Store → Type 0
-ReachesSound s = AllByRecursion IsSound s.around.refs × AllByRecursion IsSound s.mine.refs
+ReachesSound s = AllByRecursion IsSoundRef s.around.refs × AllByRecursion IsSoundRef s.mine.refs

@@ -17,7 +17,7 @@ use Rattle.tenant_parts.specs.declared.request.ProgramText.{ProgramText}
 use Rattle.tenant_parts.specs.declared.request.Waiting.{Waiting}
 use Rattle.tenant_parts.specs.declared.request.Manner.{Manner}
 use Rattle.tenant_parts.specs.declared.request.Run.{Run}
-use Rattle.tenant_parts.specs.declared.request.Hand.{Hand}
+use Rattle.tenant_parts.specs.declared.request.WorkInHand.{WorkInHand}
 use Rattle.tenant_parts.specs.declared.actor.ActorState.{ActorState}
 
 abbrev pub text_view : ProgramText → rules.ProgramText
@@ -39,7 +39,7 @@ kept_trace = map (λ kept. exchange_view kept.value)
 abbrev pub run_view : Run → rules.Run
 run_view r = record { job = job_view r.job; trace = kept_trace r.trace.items }
 
-abbrev pub hand_view : Hand → rules.Hand
+abbrev pub hand_view : WorkInHand → rules.WorkInHand
 hand_view h = record {
   origin = origin_view (arc_value h.origin);
   manner = manner_view h.manner;

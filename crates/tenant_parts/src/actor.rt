@@ -7,7 +7,7 @@ ghost use Rattle.tenant_parts.specs.Ahead.{next_text, tells_value};
 ghost use Rattle.tenant_parts.specs.Busy.{is_busy};
 ghost use Rattle.tenant_parts.specs.Queues.{with_request, without_newest};
 
-use crate::request::{Hand, Manner, ProgramText, Waiting};
+use crate::request::{WorkInHand, Manner, ProgramText, Waiting};
 use std::alloc::{AllocError, Global};
 use std::collections::VecDeque;
 
@@ -15,7 +15,7 @@ use std::collections::VecDeque;
 pub struct ActorState {
     /// The requests that wait, oldest first.
     pub waiting: VecDeque<Waiting>,
-    pub hand: Option<Hand>,
+    pub hand: Option<WorkInHand>,
     /// Whether its session was closed while a request of it was in hand.
     pub is_closed: bool,
 }

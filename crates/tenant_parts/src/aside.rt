@@ -7,7 +7,7 @@ ghost use Rattle.tenant_parts.specs.Aside.{printed_in};
 
 use crate::actor::ActorState;
 use crate::read_text::{ReadText, take_if_of};
-use crate::request::{Hand, Run, Waiting};
+use crate::request::{WorkInHand, Run, Waiting};
 use repl_reader::{ProgramForms, read_all};
 use std::alloc::{AllocError, Global};
 
@@ -19,7 +19,7 @@ pub enum Left {
     /// A form that ran.
     Form(Run),
     /// A request that was in hand.
-    Hand(Hand),
+    WorkInHand(WorkInHand),
     /// An actor whose request was interrupted.
     Actor(ActorState),
 }
@@ -30,7 +30,7 @@ impl Drop for Left {
             Left::Nothing => {},
             Left::Request(_it) => {},
             Left::Form(_it) => {},
-            Left::Hand(_it) => {},
+            Left::WorkInHand(_it) => {},
             Left::Actor(_it) => {}
         }
     }

@@ -2,21 +2,21 @@
 ghost use Rattle.std.specs.Prelude.{◌≡◌, ◌<◌, ◌≤◌, ◌+◌, ◌^◌, true, IsNone, IfOk, OnErr};
 ghost use Rattle.repl_asks.specs.Inside.View.{ask_view, name_view, intent_view};
 ghost use Rattle.value_data.specs.Inside.View.{view};
-ghost use Rattle.server_rules.specs.Asking.{call_of, is_allowed, may_be_set, send_call};
+ghost use Rattle.server_rules.specs.Asking.{call_of, is_allowed, may_be_set, may_send_call};
 ghost use Rattle.ref_table.specs.Calls.{performed, makes, begins, reads, counts, commits};
 ghost use Rattle.ref_table.specs.Calls.{outside};
 ghost use Rattle.ref_table.specs.Store.{Store};
-ghost use Rattle.server_rules.specs.Tenant.{Quiet, seat_of};
+ghost use Rattle.server_rules.specs.Tenant.{TenantState, seat_of};
 ghost use Rattle.ref_table.specs.Refs.{Refs};
 ghost use Rattle.ref_table.specs.Standing.{counter_of};
 ghost use Rattle.ref_table.specs.Told.{setting_told};
 ghost use Rattle.tenant_parts.specs.Attempts.{Reaches};
 ghost use Rattle.tenant_parts.specs.Bounds.{least_call, most_call};
 ghost use Rattle.tenant_parts.specs.Serving.{TableServes, ServesWithAttempts, PerformsCall};
-ghost use Rattle.tenant_parts.specs.Thrice.{told_answer, AreThrice};
+ghost use Rattle.tenant_parts.specs.AnswerCopies.{told_answer, AreCopies};
 
 use crate::attempts::Attempts;
-use crate::thrice::Thrice;
+use crate::copies::AnswerCopies;
 use ref_history::{Bounds, RingHistory};
 use ref_table::{CommitOutcome, RefTable};
 use repl_asks::{Ask, Intent, Reading};
@@ -33,9 +33,9 @@ pub fn call(
     attempts: &mut Attempts,
     actor: Actor,
     ask: &Ask,
-) -> Result<Option<Thrice>, AllocError>
+) -> Result<Option<AnswerCopies>, AllocError>
     requires { counter_of refs.old < u128.MAX }
-    ensures called { (q : Quiet) (s : Store) (r : Refs)
+    ensures called { (q : TenantState) (s : Store) (r : Refs)
         → ServesWithAttempts refs.old attempts.old s r
         → is_allowed (ask_view ask.now) q.cells ≡ true
         → IfOk result (λ it. PerformsCall refs.new attempts.new r (told_answer it)
@@ -45,14 +45,14 @@ pub fn call(
     ensures counter { counter_of refs.new ≤ counter_of refs.old + 1 }
     ensures untold { IfOk result (λ it. IsNone it → counter_of refs.new ≡ counter_of refs.old) }
     ensures failed { OnErr result (counter_of refs.new ≡ counter_of refs.old) }
-    ensures thrice { IfOk result AreThrice }
+    ensures copies { IfOk result AreCopies }
 {
     match ask {
-        Ask::Resolve { .. } | Ask::Define { .. } | Ask::Enter(_) => Ok(Some(Thrice::done())),
-        Ask::NewAtom(_) | Ask::ReadAtom(_) => Ok(Some(Thrice::done())),
-        Ask::SetAtom { .. } | Ask::TryAtom { .. } => Ok(Some(Thrice::done())),
-        Ask::NewAgent(_) | Ask::ReadAgent(_) => Ok(Some(Thrice::done())),
-        Ask::AgentFault(_) | Ask::RestartAgent { .. } => Ok(Some(Thrice::done())),
+        Ask::Resolve { .. } | Ask::Define { .. } | Ask::Enter(_) => Ok(Some(AnswerCopies::done())),
+        Ask::NewAtom(_) | Ask::ReadAtom(_) => Ok(Some(AnswerCopies::done())),
+        Ask::SetAtom { .. } | Ask::TryAtom { .. } => Ok(Some(AnswerCopies::done())),
+        Ask::NewAgent(_) | Ask::ReadAgent(_) => Ok(Some(AnswerCopies::done())),
+        Ask::AgentFault(_) | Ask::RestartAgent { .. } => Ok(Some(AnswerCopies::done())),
         Ask::Send(_) => Ok(stand_outside(attempts, actor)),
         Ask::Await(_) => Ok(stand_outside(attempts, actor)),
         Ask::MaySend(_) => Ok(stand_to_send(attempts, actor)),
@@ -83,18 +83,18 @@ fn make(
     attempts: &Attempts,
     value: &Value,
     bounds: Bounds,
-) -> Result<Option<Thrice>, AllocError>
+) -> Result<Option<AnswerCopies>, AllocError>
     ensures called { (s : Store) (r : Refs) → ServesWithAttempts refs.old attempts.now s r
         → IfOk result (λ it. PerformsCall refs.new attempts.now r (told_answer it)
         (performed s (makes (view value.now) bounds.least bounds.most))) }
     ensures stays { (s : Store) (r : Refs) → ServesWithAttempts refs.old attempts.now s r
         → OnErr result (ServesWithAttempts refs.new attempts.now s r) }
     ensures counter { counter_of refs.new ≡ counter_of refs.old }
-    ensures thrice { IfOk result AreThrice }
+    ensures copies { IfOk result AreCopies }
 {
     let owner = Owner::Tenant(attempts.tenant);
     let name = refs.make(alloc, owner, copy(value)?, bounds)?;
-    Ok(Some(Thrice::of_name(name)))
+    Ok(Some(AnswerCopies::of_name(name)))
 }
 
 // An attempt begins.
@@ -102,43 +102,43 @@ fn begin(
     refs: &RefTable<RingHistory>,
     attempts: &mut Attempts,
     actor: Actor,
-) -> Result<Option<Thrice>, AllocError>
+) -> Result<Option<AnswerCopies>, AllocError>
     ensures called { (s : Store) (r : Refs) → ServesWithAttempts refs.now attempts.old s r
         → IfOk result (λ it. PerformsCall refs.now attempts.new r (told_answer it)
         (performed s (begins (seat_of actor)))) }
     ensures stays { (s : Store) (r : Refs) → ServesWithAttempts refs.now attempts.old s r
         → OnErr result (ServesWithAttempts refs.now attempts.new s r) }
-    ensures thrice { IfOk result AreThrice }
+    ensures copies { IfOk result AreCopies }
 {
     if attempts.point(actor).is_some() {
         return Ok(None);
     }
     attempts.begin(actor, refs.begin())?;
-    Ok(Some(Thrice::done()))
+    Ok(Some(AnswerCopies::done()))
 }
 
 // An attempt has to run, but in an action.
-fn stand_to_send(attempts: &Attempts, actor: Actor) -> Option<Thrice>
+fn stand_to_send(attempts: &Attempts, actor: Actor) -> Option<AnswerCopies>
     ensures told { (s : Store) → Reaches attempts.now s
-        → told_answer result ≡ (performed s (send_call (seat_of actor))).told }
-    ensures thrice { AreThrice result }
+        → told_answer result ≡ (performed s (may_send_call (seat_of actor))).told }
+    ensures copies { AreCopies result }
 {
     if matches!(actor, Actor::Agents) {
-        return Some(Thrice::done());
+        return Some(AnswerCopies::done());
     }
     let _point = attempts.point(actor)?;
-    Some(Thrice::done())
+    Some(AnswerCopies::done())
 }
 
 // None may run.
-fn stand_outside(attempts: &Attempts, actor: Actor) -> Option<Thrice>
+fn stand_outside(attempts: &Attempts, actor: Actor) -> Option<AnswerCopies>
     ensures told { (s : Store) → Reaches attempts.now s
         → told_answer result ≡ (performed s (outside (seat_of actor))).told }
-    ensures thrice { AreThrice result }
+    ensures copies { AreCopies result }
 {
     match attempts.point(actor) {
         Some(_) => None,
-        None => Some(Thrice::done()),
+        None => Some(AnswerCopies::done()),
     }
 }
 
@@ -148,21 +148,21 @@ fn read(
     attempts: &mut Attempts,
     actor: Actor,
     name: RefName,
-) -> Result<Option<Thrice>, AllocError>
+) -> Result<Option<AnswerCopies>, AllocError>
     ensures called { (s : Store) (r : Refs) → ServesWithAttempts refs.old attempts.old s r
         → IfOk result (λ it. PerformsCall refs.new attempts.new r (told_answer it)
         (performed s (reads (seat_of actor) (name_view name)))) }
     ensures stays { (s : Store) (r : Refs) → ServesWithAttempts refs.old attempts.old s r
         → OnErr result (ServesWithAttempts refs.new attempts.new s r) }
     ensures counter { counter_of refs.new ≡ counter_of refs.old }
-    ensures thrice { IfOk result AreThrice }
+    ensures copies { IfOk result AreCopies }
 {
     let point = attempts.point(actor);
     match refs.read(attempts.tenant, name, point)? {
-        Some(Reading::Found(value)) => Ok(Some(Thrice::of_found(value)?)),
+        Some(Reading::Found(value)) => Ok(Some(AnswerCopies::of_found(value)?)),
         Some(Reading::Retry) => {
             attempts.leave(actor);
-            Ok(Some(Thrice::retry()))
+            Ok(Some(AnswerCopies::retry()))
         }
         None => Ok(None),
     }
@@ -174,17 +174,17 @@ fn count(
     attempts: &Attempts,
     actor: Actor,
     name: RefName,
-) -> Option<Thrice>
+) -> Option<AnswerCopies>
     ensures called { (s : Store) (r : Refs) → ServesWithAttempts refs.now attempts.now s r
         → PerformsCall refs.now attempts.now r (told_answer result)
         (performed s (counts (seat_of actor) (name_view name))) }
-    ensures thrice { AreThrice result }
+    ensures copies { AreCopies result }
 {
     if matches!(name.owner, Owner::Shared) && attempts.point(actor).is_some() {
         return None;
     }
     let count = refs.history_count(attempts.tenant, name)?;
-    Some(Thrice::of_number(count))
+    Some(AnswerCopies::of_number(count))
 }
 
 // The lower bound of a ref's history, or the ref where it is set.
@@ -193,16 +193,16 @@ fn tell_or_set_least(
     attempts: &Attempts,
     name: RefName,
     set: Option<u64>,
-) -> Option<Thrice>
+) -> Option<AnswerCopies>
     ensures called { (s : Store) (r : Refs) → ServesWithAttempts refs.old attempts.now s r
         → PerformsCall refs.new attempts.now r (told_answer result)
         (performed s (least_call (name_view name) set)) }
     ensures counter { counter_of refs.new ≡ counter_of refs.old }
-    ensures thrice { AreThrice result }
+    ensures copies { AreCopies result }
 {
     match set {
         Some(least) => ref_if_set(name, refs.set_least(attempts.tenant, name, least)),
-        None => Some(Thrice::of_number(refs.bounds(attempts.tenant, name)?.least)),
+        None => Some(AnswerCopies::of_number(refs.bounds(attempts.tenant, name)?.least)),
     }
 }
 
@@ -212,25 +212,25 @@ fn tell_or_set_most(
     attempts: &Attempts,
     name: RefName,
     set: Option<u64>,
-) -> Option<Thrice>
+) -> Option<AnswerCopies>
     ensures called { (s : Store) (r : Refs) → ServesWithAttempts refs.old attempts.now s r
         → PerformsCall refs.new attempts.now r (told_answer result)
         (performed s (most_call (name_view name) set)) }
     ensures counter { counter_of refs.new ≡ counter_of refs.old }
-    ensures thrice { AreThrice result }
+    ensures copies { AreCopies result }
 {
     match set {
         Some(most) => ref_if_set(name, refs.set_most(attempts.tenant, name, most)),
-        None => Some(Thrice::of_number(refs.bounds(attempts.tenant, name)?.most)),
+        None => Some(AnswerCopies::of_number(refs.bounds(attempts.tenant, name)?.most)),
     }
 }
 
-fn ref_if_set(name: RefName, is_set: bool) -> Option<Thrice>
+fn ref_if_set(name: RefName, is_set: bool) -> Option<AnswerCopies>
     ensures told { told_answer result ≡ setting_told name is_set }
-    ensures thrice { AreThrice result }
+    ensures copies { AreCopies result }
 {
     if is_set {
-        Some(Thrice::of_name(name))
+        Some(AnswerCopies::of_name(name))
     } else {
         None
     }
@@ -243,7 +243,7 @@ fn commit(
     attempts: &mut Attempts,
     actor: Actor,
     intent: &Intent,
-) -> Result<Option<Thrice>, AllocError>
+) -> Result<Option<AnswerCopies>, AllocError>
     requires { counter_of refs.old < u128.MAX }
     ensures called { (s : Store) (r : Refs) → ServesWithAttempts refs.old attempts.old s r
         → IfOk result (λ it. PerformsCall refs.new attempts.new r (told_answer it)
@@ -253,7 +253,7 @@ fn commit(
     ensures counter { counter_of refs.new ≤ counter_of refs.old + 1 }
     ensures untold { IfOk result (λ it. IsNone it → counter_of refs.new ≡ counter_of refs.old) }
     ensures failed { OnErr result (counter_of refs.new ≡ counter_of refs.old) }
-    ensures thrice { IfOk result AreThrice }
+    ensures copies { IfOk result AreCopies }
 {
     let Some(point) = attempts.point(actor) else {
         return Ok(None);
@@ -261,14 +261,14 @@ fn commit(
     match refs.commit(alloc, attempts.tenant, intent, point)? {
         CommitOutcome::Committed => {
             attempts.leave(actor);
-            Ok(Some(Thrice::committed()))
+            Ok(Some(AnswerCopies::committed()))
         }
         CommitOutcome::Conflict => {
             attempts.leave(actor);
-            Ok(Some(Thrice::conflict()))
+            Ok(Some(AnswerCopies::conflict()))
         }
         CommitOutcome::Faulted(fault) => {
-            let told = Thrice::faulted(fault)?;
+            let told = AnswerCopies::faulted(fault)?;
             attempts.leave(actor);
             Ok(Some(told))
         }

@@ -13,7 +13,7 @@ mod queues;
 mod read_text;
 mod request;
 mod telling;
-mod thrice;
+mod copies;
 
 pub use actor::ActorState;
 pub use actors::Actors;
@@ -23,6 +23,6 @@ pub use batch::Batch;
 pub use calling::call;
 pub use outbox::Outbox;
 pub use read_text::ReadText;
-pub use request::{Hand, Manner, ProgramText, Run, Waiting};
+pub use request::{WorkInHand, Manner, ProgramText, Run, Waiting};
 pub use telling::is_told;
-pub use thrice::Thrice;
+pub use copies::AnswerCopies;

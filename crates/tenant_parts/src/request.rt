@@ -61,7 +61,7 @@ impl Drop for Run {
 }
 
 /// A request that was begun and is not done, or an action.
-pub struct Hand {
+pub struct WorkInHand {
     pub origin: Arc<Origin>,
     pub manner: Manner,
     /// The namespace in which its next form is evaluated.
@@ -73,9 +73,9 @@ pub struct Hand {
     pub fault: Option<Fault>,
 }
 
-impl Drop for Hand {
+impl Drop for WorkInHand {
     fn drop(self) {
-        let Hand {
+        let WorkInHand {
             origin: _origin,
             manner: _manner,
             namespace: _namespace,

@@ -1,7 +1,7 @@
 // Whether the refs would tell what a form asks.
 ghost use Rattle.std.specs.Prelude.{◌≡◌, is_some};
 ghost use Rattle.repl_asks.specs.Inside.View.{ask_view, name_view, intent_view};
-ghost use Rattle.server_rules.specs.Asking.{call_of, send_call};
+ghost use Rattle.server_rules.specs.Asking.{call_of, may_send_call};
 ghost use Rattle.ref_table.specs.Calls.{performed, counts, commits};
 ghost use Rattle.ref_table.specs.Store.{Store, ref_named};
 ghost use Rattle.server_rules.specs.Tenant.{seat_of};
@@ -50,7 +50,7 @@ pub fn is_told(
 // Whether an attempt runs, or it is an action that asks.
 fn may_send(attempts: &Attempts, actor: Actor) -> bool
     ensures { (s : Store) → Reaches attempts.now s
-        → result ≡ is_some (performed s (send_call (seat_of actor))).told }
+        → result ≡ is_some (performed s (may_send_call (seat_of actor))).told }
 {
     matches!(actor, Actor::Agents) || attempts.point(actor).is_some()
 }

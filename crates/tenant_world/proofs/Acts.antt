@@ -16,9 +16,9 @@ use Rattle.server_rules.specs.Ending.{cells_ended}
 use Rattle.server_rules.specs.Ground.{Ground}
 use Rattle.server_rules.specs.Moves.{Move}
 use Rattle.server_rules.specs.Request.{Manner, each_form, each_form_elsewhere, last_form, of_action}
-use Rattle.server_rules.specs.Request.{Hand, Run, Waiting}
+use Rattle.server_rules.specs.Request.{WorkInHand, Run, Waiting}
 use Rattle.server_rules.specs.Starting.{action_begun, action_for, start_action, with_action_begun}
-use Rattle.server_rules.specs.Tenant.{ActorData, Quiet, is_held, with_replies, with_state}
+use Rattle.server_rules.specs.Tenant.{ActorData, TenantState, is_held, with_replies, with_state}
 use Rattle.server_rules.specs.declared.actor.Actor.{Actor}
 use Rattle.tenant_parts.specs.Replies.{waiting_bytes}
 use Rattle.tenant_asks.specs.Acting.{is_accepted}
@@ -27,17 +27,17 @@ use Rattle.tenant_asks.specs.Sends.{trace_of}
 use Rattle.tenant_world.specs.Actions.{end_by, action_end, agents_behind}
 use Rattle.tenant_asks.specs.Cells.{cells_data}
 use Rattle.tenant_asks.specs.Memories.{Remembers}
-use Rattle.tenant_asks.specs.declared.memory.Memory.{Memory}
+use Rattle.tenant_asks.specs.declared.memory.Remembered.{Remembered}
 use Rattle.tenant_world.proofs.Begins.{accepted-start_outcome}
 use Rattle.tenant_asks.proofs.Sending.{all-sent}
 
 -- all but the atoms and agents is as it was
-abbrev pub KeepsOthers : Memory → Memory → Type 0
+abbrev pub KeepsOthers : Remembered → Remembered → Type 0
 KeepsOthers m n = (n.sessions ≡ m.sessions) × (n.bare ≡ m.bare) × (n.spaces ≡ m.spaces)
     × (n.outbox ≡ m.outbox)
 
 -- the agents are another value that stands for the same
-pub remembers-agents : (g : Ground) (t : ℕ) (m n : Memory) (q : Quiet) → KeepsOthers m n
+pub remembers-agents : (g : Ground) (t : ℕ) (m n : Remembered) (q : TenantState) → KeepsOthers m n
     → cells_data n.cells ≡ cells_data m.cells → Remembers g t m q → Remembers g t n q
 remembers-agents g t m n q same cells r = record {
   sessions = same.0 ∙ r.sessions;
@@ -55,7 +55,7 @@ none-behind [] = refl
 none-behind (x ∷ xs) = ap (λ ys. x ∷ ys) (none-behind xs)
 
 -- the next action runs, and nothing else changes
-pub remembers-begun : (g : Ground) (t : ℕ) (m n : Memory) (a : Actor) (q : Quiet)
+pub remembers-begun : (g : Ground) (t : ℕ) (m n : Remembered) (a : Actor) (q : TenantState)
     → Remembers g t m q → KeepsOthers m n
     → cells_data n.cells ≡ with_agents (with_next_begun (cells_data m.cells).agents) (cells_data m.cells)
     → a ≡ Actor.Agents
@@ -79,7 +79,7 @@ action-agents Actor.Bare agents next found = absurd (cc)
 action-agents (Actor.Session n) agents next found = absurd (cc)
 
 -- an action that waits begins, where not too many replies wait
-pub action-accepted : (g : Ground) (a : Actor) (actor : ActorData) (q : Quiet) (next : NextAction)
+pub action-accepted : (g : Ground) (a : Actor) (actor : ActorData) (q : TenantState) (next : NextAction)
     → action_for a q.cells.agents ≡ Some next → is_held q ≡ false
     → is_accepted (start_action g a actor q (action_for a q.cells.agents)) ≡ true
 action-accepted g a actor q next found free =
@@ -92,7 +92,7 @@ none-waits (w ∷ ws) none = absurd (cc)
 
 -- Ending
 
-behind-so : (sender_trace : List Exchanged) (a : Actor) (h : Hand) (r : Result Datum Failure)
+behind-so : (sender_trace : List Exchanged) (a : Actor) (h : WorkInHand) (r : Result Datum Failure)
     (session : Option ℕ) (agents : AgentsData)
     → agents_behind (end_by (of_action session) (sender_of a h) sender_trace r) agents
     ≡ agents_ended (sender_of a h) sender_trace r agents
@@ -101,7 +101,7 @@ behind-so trace a h (Ok d) session agents =
 behind-so trace a h (Err f) session agents = refl
 
 -- what was prepared is what the rules make of the agents
-pub ended-cells : (a : Actor) (h : Hand) (run : Run) (e : EndingData) (c : CellsData)
+pub ended-cells : (a : Actor) (h : WorkInHand) (run : Run) (e : EndingData) (c : CellsData)
     → h.running ≡ Some run
     → with_agents (agents_behind (action_end a h e.end.result) c.agents) c
     ≡ cells_ended h.manner a h run e c
@@ -120,7 +120,7 @@ ended-cells a h run e c running =
         ap (λ x. with_agents x c) (behind-so run.trace a h e.end.result session c.agents)
 
 -- the cells change behind the replies
-pub remembers-ended : (g : Ground) (t : ℕ) (m n : Memory) (a : Actor) (move : Move) (q : Quiet)
+pub remembers-ended : (g : Ground) (t : ℕ) (m n : Remembered) (a : Actor) (move : Move) (q : TenantState)
     (c : CellsData) → Remembers g t m (with_replies move.replies (with_state a move.state q))
     → KeepsOthers m n → cells_data n.cells ≡ c
     → Remembers g t n (with_replies move.replies (with_state a move.state (record q { cells = c })))
@@ -150,7 +150,7 @@ remembers-ended g t m n (Actor.Session k) move q c r same cells = record {
 }
 
 -- the atoms and agents behind a move are those before it
-pub moved-cells : (a : Actor) (move : Move) (q : Quiet)
+pub moved-cells : (a : Actor) (move : Move) (q : TenantState)
     → (with_replies move.replies (with_state a move.state q)).cells ≡ q.cells
 moved-cells Actor.Agents move q = refl
 moved-cells Actor.Bare move q = refl

@@ -11,7 +11,7 @@ use Rattle.tenant_parts.specs.View.{actors_view}
 use Rattle.repl_replies.specs.Replies.{ReplyData, bytes_of}
 use Rattle.server_rules.specs.Ground.{Ground}
 use Rattle.ref_table.specs.Store.{Store}
-use Rattle.server_rules.specs.Tenant.{Quiet}
+use Rattle.server_rules.specs.Tenant.{TenantState}
 use Rattle.server_rules.specs.Plan as deeds
 use Rattle.server_rules.specs.Plan.{leaves, reply_given}
 use Rattle.server_rules.specs.Deeds.{drain_outcome}
@@ -22,14 +22,14 @@ use Rattle.tenant_world.specs.declared.tenant.Tenant.{Tenant}
 use Rattle.tenant_parts.specs.declared.attempts.Attempts.{Attempts}
 use Rattle.tenant_parts.specs.Attempts.{Reaches}
 use Rattle.tenant_asks.specs.Acting.{is_accepted}
-use Rattle.tenant_world.specs.Standing.{QuietStands, AcceptsDeed, RefusesDeed}
+use Rattle.tenant_world.specs.Standing.{StandsForState, AcceptsDeed, RefusesDeed}
 
-drains-by : (g : Ground) (q : Quiet) (s : Store)
+drains-by : (g : Ground) (q : TenantState) (s : Store)
     → (deed_result g s q deeds.drains).outcome ≡ drain_outcome q q.replies
 unfolding deed_result
 drains-by g q s = refl
 
-drains-none : (g : Ground) (q : Quiet) (s : Store) → (deed_result g s q deeds.drains).store ≡ s
+drains-none : (g : Ground) (q : TenantState) (s : Store) → (deed_result g s q deeds.drains).store ≡ s
 unfolding deed_result
 drains-none g q s = refl
 
@@ -45,10 +45,10 @@ pub record OnlyDrains (code new : Tenant) : Type 0 where
   pub cells : new.memory.cells ≡ code.memory.cells
   pub attempts : new.attempts ≡ code.attempts
 
-stands-with : (g : Ground) (q : Quiet) (s : Store) (code new : Tenant) (replies : List ReplyData)
-    → OnlyDrains code new → QuietStands g code q s
+stands-with : (g : Ground) (q : TenantState) (s : Store) (code new : Tenant) (replies : List ReplyData)
+    → OnlyDrains code new → StandsForState g code q s
     → waiting_bytes new.memory.outbox ≡ map bytes_of replies
-    → QuietStands g new (record q { replies = replies }) s
+    → StandsForState g new (record q { replies = replies }) s
 stands-with g q s code new replies same st waits =
     let E : Decoder → Type 0 = λ d.
     decoder.DecoderStands message_limit d q.heard (g.readings.stream q.heard).messages in
@@ -69,8 +69,8 @@ stands-with g q s code new replies same st waits =
       attempts = subst A (sym same.attempts) st.attempts;
     }
 
-pub drains : {X : Type 0} (items : X → List ℕ) (g : Ground) (q : Quiet) (s : Store) (code new : Tenant)
-    (r : Option X) → OnlyDrains code new → QuietStands g code q s
+pub drains : {X : Type 0} (items : X → List ℕ) (g : Ground) (q : TenantState) (s : Store) (code new : Tenant)
+    (r : Option X) → OnlyDrains code new → StandsForState g code q s
     → MatchOption r ((waiting_bytes code.memory.outbox ≡ []) × (waiting_bytes new.memory.outbox ≡ []))
     (λ v. waiting_bytes code.memory.outbox ≡ items v ∷ waiting_bytes new.memory.outbox)
     → MatchOption r
@@ -88,7 +88,7 @@ drains {X = X} items g q s code new r same st told = by q.replies refl r st.reme
         (reply_given (items v)))
     by [] is None waits none = record {
       refused = λ ne. drains-by g q s ∙ ap (drain_outcome q) is;
-      stands = subst (λ rs. QuietStands g new (record q { replies = rs }) s) (sym is)
+      stands = subst (λ rs. StandsForState g new (record q { replies = rs }) s) (sym is)
           (stands-with g q s code new [] same st none.1);
     }
     by [] is (Some v) waits some =
@@ -108,12 +108,12 @@ drains {X = X} items g q s code new r same st told = by q.replies refl r st.reme
           after = record q { replies = more };
           accepted = drains-by g q s ∙ ap (drain_outcome q) is
               ∙ ap (λ bytes. leaves (record q { replies = more }) (reply_given bytes)) first;
-          stands = subst (QuietStands g new (record q { replies = more })) (sym (drains-none g q s))
+          stands = subst (StandsForState g new (record q { replies = more })) (sym (drains-none g q s))
               (stands-with g q s code new more same st (sym rest));
         }
 
 -- where a reply waits, one is taken out
-pub drains-accepted : (g : Ground) (q : Quiet) (s : Store) (code : Tenant) → QuietStands g code q s
+pub drains-accepted : (g : Ground) (q : TenantState) (s : Store) (code : Tenant) → StandsForState g code q s
     → waiting_bytes code.memory.outbox ≢ []
     → is_accepted (deed_result g s q deeds.drains).outcome ≡ true
 drains-accepted g q s code st some = by q.replies refl

@@ -5,8 +5,8 @@ use Rattle.std.proofs.Common.{Result, Ok, Err, OnOk, IfErr}
 use Rattle.repl_asks.specs.Exchange.{Exchanged}
 use Rattle.repl_asks.specs.Job.{EndData, EndingData}
 use Rattle.server_rules.specs.Ground.{Ground}
-use Rattle.server_rules.specs.Request.{Hand, Run}
-use Rattle.server_rules.specs.Tenant.{ActorData, Quiet, is_held}
+use Rattle.server_rules.specs.Request.{WorkInHand, Run}
+use Rattle.server_rules.specs.Tenant.{ActorData, TenantState, is_held}
 use Rattle.server_rules.specs.Ending.{end_of, end_running, end_checked, end_compared, end_accepted}
 use Rattle.server_rules.specs.Ending.{with_left_attempt}
 use Rattle.server_rules.specs.Starting.{interrupted_in}
@@ -21,7 +21,7 @@ use Rattle.tenant_world.specs.Comparing.{ending_refusal, difference_told, compar
 use Rattle.tenant_world.specs.Comparing.{PassesComparison, FailsComparison, refusal_in}
 use Rattle.tenant_asks.specs.Acting.{RefusesOutcome}
 use Rattle.tenant_asks.specs.Memories.{Remembers}
-use Rattle.tenant_asks.specs.declared.memory.Memory.{Memory}
+use Rattle.tenant_asks.specs.declared.memory.Remembered.{Remembered}
 use Rattle.tenant_parts.specs.Attempts.{Reaches}
 use Rattle.tenant_parts.specs.declared.attempts.Attempts.{Attempts}
 use Rattle.std.specs.Result.{IsErrAnd}
@@ -46,30 +46,30 @@ differs-so g right run e place job differs unique nowhere =
         ap (λ n. Some (Refusal.TraceMismatch n)) (unique place p e.trace run.trace differs
         (right.comparisons.first_difference e.trace run.trace p is))
 
-runs-so : (g : Ground) (a : Actor) (actor : ActorData) (e : EndingData) (q : Quiet) (h : Hand)
+runs-so : (g : Ground) (a : Actor) (actor : ActorData) (e : EndingData) (q : TenantState) (h : WorkInHand)
     (run : Run) → actor.hand ≡ Some h → h.running ≡ Some run
     → end_of g a actor e q actor.hand ≡ end_running g a actor h e q (Some run)
 runs-so g a actor e q h run hand running =
     ap (end_of g a actor e q) hand ∙ ap (end_running g a actor h e q) running
 
-abbrev pub held_by : Ground → Actor → ActorData → Hand → Run → EndingData → Quiet → Bool → Plan
+abbrev pub held_by : Ground → Actor → ActorData → WorkInHand → Run → EndingData → TenantState → Bool → Plan
 held_by g a actor h run e q b =
     if b then quietly (refuses Refusal.Held) else end_checked g a actor h run e q
 
-abbrev pub closed_by : Ground → Actor → ActorData → Hand → Run → EndingData → Quiet → Bool → Plan
+abbrev pub closed_by : Ground → Actor → ActorData → WorkInHand → Run → EndingData → TenantState → Bool → Plan
 closed_by g a actor h run e q b =
     if b then with_left_attempt a (interrupted_in a h q)
     else held_by g a actor h run e q (is_held q)
 
-pub ends-interrupted : (g : Ground) (a : Actor) (actor : ActorData) (e : EndingData) (q : Quiet)
-    (h : Hand) (run : Run) → actor.hand ≡ Some h → h.running ≡ Some run → actor.is_closed ≡ true
+pub ends-interrupted : (g : Ground) (a : Actor) (actor : ActorData) (e : EndingData) (q : TenantState)
+    (h : WorkInHand) (run : Run) → actor.hand ≡ Some h → h.running ≡ Some run → actor.is_closed ≡ true
     → with_left_attempt a (interrupted_in a h q) ≡ end_of g a actor e q actor.hand
 ends-interrupted g a actor e q h run hand running closed = sym (
     runs-so g a actor e q h run hand running
     ∙ ap (λ (b : Bool). closed_by g a actor h run e q b) closed)
 
 -- the form that runs is compared, where neither stands in the way
-compared-so : (actor : ActorData) (q : Quiet) (h : Hand) (run : Run) → actor.hand ≡ Some h
+compared-so : (actor : ActorData) (q : TenantState) (h : WorkInHand) (run : Run) → actor.hand ≡ Some h
     → h.running ≡ Some run → actor.is_closed ≡ false → is_held q ≡ false
     → compared_run actor q ≡ Some run
 compared-so actor q h run hand running open_still free =
@@ -77,8 +77,8 @@ compared-so actor q h run hand running open_still free =
     ∙ ap (λ (b : Bool). if b then None else running_of (Some actor)) free
     ∙ ap (option_and_then (λ x. x.running)) hand ∙ running
 
-pub ends-accepted : (g : Ground) (a : Actor) (actor : ActorData) (e : EndingData) (q : Quiet)
-    (h : Hand) (run : Run) → actor.hand ≡ Some h → h.running ≡ Some run → actor.is_closed ≡ false
+pub ends-accepted : (g : Ground) (a : Actor) (actor : ActorData) (e : EndingData) (q : TenantState)
+    (h : WorkInHand) (run : Run) → actor.hand ≡ Some h → h.running ≡ Some run → actor.is_closed ≡ false
     → is_held q ≡ false → PassesComparison g actor q e
     → end_accepted a actor h run e q ≡ end_of g a actor e q actor.hand
 ends-accepted g a actor e q h run hand running open_still free passes = sym (
@@ -95,7 +95,7 @@ ends-accepted g a actor e q h run hand running open_still free passes = sym (
     by true None same = refl
 
 -- what is compared is the form that runs, and neither stands in the way
-compared-then : (actor : ActorData) (q : Quiet) (run : Run) → compared_run actor q ≡ Some run
+compared-then : (actor : ActorData) (q : TenantState) (run : Run) → compared_run actor q ≡ Some run
     → (actor.is_closed ≡ false) × (is_held q ≡ false) × (running_of (Some actor) ≡ Some run)
 compared-then actor q run is = by actor.is_closed (is_held q) (running_of (Some actor)) is
   where
@@ -106,13 +106,13 @@ compared-then actor q run is = by actor.is_closed (is_held q) (running_of (Some 
     by false true r never = absurd (cc)
     by false false r is = (refl, refl, is)
 
-in-hand-then : (o : Option Hand) (run : Run) → option_and_then (λ h. h.running) o ≡ Some run
-    → (h : Hand) × (o ≡ Some h) × (h.running ≡ Some run)
+in-hand-then : (o : Option WorkInHand) (run : Run) → option_and_then (λ h. h.running) o ≡ Some run
+    → (h : WorkInHand) × (o ≡ Some h) × (h.running ≡ Some run)
 in-hand-then None run never = absurd (cc)
 in-hand-then (Some h) run is = (h, refl, is)
 
 -- an ending that is not that of the form is refused for it
-pub ends-refused : (g : Ground) (s : Store) (a : Actor) (actor : ActorData) (e : EndingData) (q : Quiet)
+pub ends-refused : (g : Ground) (s : Store) (a : Actor) (actor : ActorData) (e : EndingData) (q : TenantState)
     (run : Run) (why : Refusal) → compared_run actor q ≡ Some run
     → Some why ≡ ending_refusal g run e
     → (carried_out s (end_of g a actor e q actor.hand)).outcome ≡ refuses why
@@ -124,7 +124,7 @@ ends-refused g s a actor e q run why compared differs =
     ∙ ap (λ (b : Bool). held_by g a actor k.0 run e q b) now.1)
     ∙ by k.0 (g.comparisons.is_same_job e.job run.job) (g.comparisons.difference e.trace run.trace) differs
   where
-    by : (h : Hand) (b : Bool) (d : Option ℕ) → Some why ≡ difference_told b d
+    by : (h : WorkInHand) (b : Bool) (d : Option ℕ) → Some why ≡ difference_told b d
         → (carried_out s (end_compared a actor h run e q b d)).outcome ≡ refuses why
     by h false d same =
         let is : why ≡ Refusal.TraceMismatch 0 = cc in
@@ -135,7 +135,7 @@ ends-refused g s a actor e q run why compared differs =
     by h true None never = absurd (cc)
 
 -- the ending of the form that runs passes
-pub own-passes : (g : Ground) → IsRight g → (actor : ActorData) (q : Quiet) (end : EndData)
+pub own-passes : (g : Ground) → IsRight g → (actor : ActorData) (q : TenantState) (end : EndData)
     (e : EndingData) → IsEndOfForm (running_of (Some actor)) end e → PassesComparison g actor q e
 own-passes g right actor q end e own = λ run compared.
     let runs = (compared-then actor q run compared).2 in
@@ -145,7 +145,7 @@ own-passes g right actor q end e own = λ run compared.
     ((right.comparisons.no_difference e.trace run.trace).1 (own.trace run runs))
 
 -- what a comparison comes to
-pub passes-so : {A : Type 0} (g : Ground) (actor : ActorData) (q : Quiet) (e : EndingData) (run : Run)
+pub passes-so : {A : Type 0} (g : Ground) (actor : ActorData) (q : TenantState) (e : EndingData) (run : Run)
     (res : Result A Refusal) → compared_run actor q ≡ Some run
     → refusal_in res ≡ ending_refusal g run e → OnOk res (PassesComparison g actor q e)
 passes-so g actor q e run (Ok x) compared told = λ other is.
@@ -153,7 +153,7 @@ passes-so g actor q e run (Ok x) compared told = λ other is.
     subst (λ r. ending_refusal g r e ≡ None) same (sym told)
 passes-so g actor q e run (Err why) compared told = tt
 
-pub fails-so : {A : Type 0} (g : Ground) (actor : ActorData) (q : Quiet) (e : EndingData) (run : Run)
+pub fails-so : {A : Type 0} (g : Ground) (actor : ActorData) (q : TenantState) (e : EndingData) (run : Run)
     (res : Result A Refusal) → compared_run actor q ≡ Some run
     → refusal_in res ≡ ending_refusal g run e → IfErr res (FailsComparison g actor q e)
 fails-so g actor q e run (Ok x) compared told = tt
@@ -161,13 +161,13 @@ fails-so g actor q e run (Err why) compared told =
     record { run = run; compared = compared; differs = told }
 
 -- where nothing is compared
-pub passes-uncompared : (g : Ground) (actor : ActorData) (q : Quiet) (e : EndingData)
+pub passes-uncompared : (g : Ground) (actor : ActorData) (q : TenantState) (e : EndingData)
     → None ≡ compared_run actor q → PassesComparison g actor q e
 passes-uncompared g actor q e none = λ run some. absurd (cc)
 
 -- it is refused, and all is as it was
 pub declined-compared : {X : Type 0} (g : Ground) (s : Store) (a : Actor) (actor : ActorData)
-    (e : EndingData) (q : Quiet) (memory : Memory) (attempts : Attempts) (why : Refusal)
+    (e : EndingData) (q : TenantState) (memory : Remembered) (attempts : Attempts) (why : Refusal)
     (res : Result X Refusal) → IsErrAnd res (λ x. x ≡ why) → FailsComparison g actor q e why
     → Remembers g s.tenant memory q → Reaches attempts s
     → IfErr res (λ x. RefusesOutcome g s.tenant q

@@ -10,7 +10,7 @@ use Rattle.server_rules.specs.Machine.Ready.{is_busy}
 use Rattle.ref_table.specs.Numbered.{Entry, part_under}
 use Rattle.server_rules.specs.Tenant.{ActorData, seat_of, actor_at}
 use Rattle.server_rules.specs.declared.actor.Actor.{Actor}
-use Rattle.server_rules.specs.LoneTurns.{Lone, is_of_agents, agents_last}
+use Rattle.server_rules.specs.LoneTurns.{LoneTenant, is_of_agents, agents_last}
 use Rattle.server_rules.specs.Inside.Rounds.{is_some_busy, busy_actors, IsEnough}
 use Rattle.tenant_parts.specs.Busy.{busy_of}
 use Rattle.tenant_parts.specs.Lent.{AreAbove, Ascend}
@@ -133,10 +133,10 @@ busy-last es rise =
     ∙ ap (λ xs. xs ++ Actor.Agents ∷ []) (sym (others-filtered es (names es)))
     ∙ sym (filter-both (may_be_busy es) (filter not_agents (names es)) (Actor.Agents ∷ []))
 
-pub busy-enough : (l : Lone) (es : Entries) (actors : List Actor) (count steps : ℕ)
-    → es ≡ l.quiet.actors → Ascend es → actors ≡ agents_last (busy_of es) → count ≡ length actors
-    → steps ≡ l.quiet.steps → count < steps → IsEnough l actors
+pub busy-enough : (l : LoneTenant) (es : Entries) (actors : List Actor) (count steps : ℕ)
+    → es ≡ l.state.actors → Ascend es → actors ≡ agents_last (busy_of es) → count ≡ length actors
+    → steps ≡ l.state.steps → count < steps → IsEnough l actors
 busy-enough l es actors count steps same rise are counted left room =
     let found : agents_last (busy_of es) ≡ busy_actors l =
     busy-last es rise ∙ ap (λ fs. filter (may_be_busy fs) (agents_last (names fs))) same in
-    inr (are ∙ found, subst (λ n. n < l.quiet.steps) counted (subst (λ n. count < n) left room))
+    inr (are ∙ found, subst (λ n. n < l.state.steps) counted (subst (λ n. count < n) left room))

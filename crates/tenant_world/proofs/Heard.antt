@@ -21,7 +21,7 @@ use Rattle.server_rules.specs.Plan as deeds
 use Rattle.server_rules.specs.Plan.{Outcome, refuses, leaves, messages_heard, with_step_spent}
 use Rattle.server_rules.specs.Request.{Waiting}
 use Rattle.ref_table.specs.Store.{Store}
-use Rattle.server_rules.specs.Tenant.{ActorData, seat_of, Quiet, is_held}
+use Rattle.server_rules.specs.Tenant.{ActorData, seat_of, TenantState, is_held}
 use Rattle.server_rules.specs.declared.actor.Actor.{Actor}
 use Rattle.server_rules.specs.declared.refusal.Refusal.{Refusal}
 use Rattle.tenant_parts.specs.View.{actors_view}
@@ -31,29 +31,29 @@ use Rattle.server_rules.specs.DeedResult.{deed_result}
 use Rattle.tenant_world.specs.declared.tenant.Tenant.{Tenant}
 use Rattle.tenant_parts.specs.declared.attempts.Attempts.{Attempts}
 use Rattle.tenant_parts.specs.Attempts.{Reaches}
-use Rattle.tenant_world.specs.Standing.{QuietStands, AcceptsDeed}
+use Rattle.tenant_world.specs.Standing.{StandsForState, AcceptsDeed}
 
 -- what messages leave as it was
-record Keeps (old new : Quiet) : Type 0 where
+record Keeps (old new : TenantState) : Type 0 where
   pub steps : new.steps ≡ old.steps
   pub bare : new.bare ≡ old.bare
   pub spaces : new.spaces ≡ old.spaces
   pub cells : new.cells ≡ old.cells
 
-keeps-all : (q : Quiet) → Keeps q q
+keeps-all : (q : TenantState) → Keeps q q
 keeps-all q = record { steps = refl; bare = refl; spaces = refl; cells = refl }
 
-closed-keeps : (o : OriginData) (n : ℕ) (q : Quiet) (a : Option ActorData)
+closed-keeps : (o : OriginData) (n : ℕ) (q : TenantState) (a : Option ActorData)
     → Keeps q (closed_by o n q a)
 closed-keeps o n q None = keeps-all q
 closed-keeps o n q (Some a) = record { steps = refl; bare = refl; spaces = refl; cells = refl }
 
-queued-keeps : (a : Actor) (w : Waiting) (q : Quiet) (o : Option ActorData)
+queued-keeps : (a : Actor) (w : Waiting) (q : TenantState) (o : Option ActorData)
     → Keeps q (queued_for a w q o)
 queued-keeps a w q None = keeps-all q
 queued-keeps a w q (Some actor) = record { steps = refl; bare = refl; spaces = refl; cells = refl }
 
-after_operation-keeps : (g : Ground) (t : ℕ) (o : OriginData) (op : OperationData) (q : Quiet)
+after_operation-keeps : (g : Ground) (t : ℕ) (o : OriginData) (op : OperationData) (q : TenantState)
     → Keeps q (after_operation g t o op q)
 after_operation-keeps g t o (operations.clone original) q =
     record { steps = refl; bare = refl; spaces = refl; cells = refl }
@@ -68,12 +68,12 @@ after_operation-keeps g t o (operations.eval session text ns) q =
 after_operation-keeps g t o (operations.load_file session text) q =
     queued-keeps (asker session) _ q (part_under (seat_of (asker session)) q.actors)
 
-asked-keeps : (g : Ground) (t : ℕ) (r : Result AskedData ReplyData) (q : Quiet)
+asked-keeps : (g : Ground) (t : ℕ) (r : Result AskedData ReplyData) (q : TenantState)
     → Keeps q (with_asked g t r q)
 asked-keeps g t (Ok a) q = after_operation-keeps g t a.origin a.operation q
 asked-keeps g t (Err refusal) q = record { steps = refl; bare = refl; spaces = refl; cells = refl }
 
-message-keeps : (g : Ground) (t : ℕ) (m : Tree) (q : Quiet) → Keeps q (with_message g t m q)
+message-keeps : (g : Ground) (t : ℕ) (m : Tree) (q : TenantState) → Keeps q (with_message g t m q)
 unfolding with_message
 message-keeps g t (dictionary fields) q =
     asked-keeps g t (operations.operation_or_reply (number_named (named_sessions g t q)) fields) q
@@ -81,7 +81,7 @@ message-keeps g t (integer n) q = keeps-all q
 message-keeps g t (string bytes) q = keeps-all q
 message-keeps g t (list ts) q = keeps-all q
 
-messages-keep : (g : Ground) (t : ℕ) (ms : List Tree) (q : Quiet)
+messages-keep : (g : Ground) (t : ℕ) (ms : List Tree) (q : TenantState)
     → Keeps q (with_messages g t ms q)
 messages-keep g t [] q = keeps-all q
 messages-keep g t (m ∷ ms) q =
@@ -94,7 +94,7 @@ messages-keep g t (m ∷ ms) q =
       cells = more.cells ∙ first.cells;
     }
 
-taken-keeps : (g : Ground) (t : ℕ) (piece : List ℕ) (q : Quiet) → Keeps q (taken_in g t piece q)
+taken-keeps : (g : Ground) (t : ℕ) (piece : List ℕ) (q : TenantState) → Keeps q (taken_in g t piece q)
 unfolding taken_in
 taken-keeps g t piece q =
     let kept = messages-keep g t (new_messages g.readings q.heard piece)
@@ -103,23 +103,23 @@ taken-keeps g t piece q =
 
 -- The step
 
-abbrev pub heard_by : Ground → ℕ → List ℕ → Quiet → Bool → Option WireFault → Outcome
+abbrev pub heard_by : Ground → ℕ → List ℕ → TenantState → Bool → Option WireFault → Outcome
 heard_by g t piece q none fault =
     if none then refuses Refusal.Worn else hears_more g t piece q fault
 
-pub hears-by : (g : Ground) (q : Quiet) (s : Store) (piece : List ℕ)
+pub hears-by : (g : Ground) (q : TenantState) (s : Store) (piece : List ℕ)
     → (deed_result g s q (deeds.hears piece)).outcome
     ≡ heard_by g s.tenant piece q (q.steps == 0) (stream_fault g.readings q.heard)
 unfolding deed_result
 hears-by g q s piece = refl
 
-hears-none : (g : Ground) (q : Quiet) (s : Store) (piece : List ℕ)
+hears-none : (g : Ground) (q : TenantState) (s : Store) (piece : List ℕ)
     → (deed_result g s q (deeds.hears piece)).store ≡ s
 unfolding deed_result
 hears-none g q s piece = refl
 
 -- a piece is heard where steps are left, the stream has no fault and not too many replies wait
-pub hears-so : (g : Ground) (q : Quiet) (s : Store) (piece : List ℕ) → (q.steps == 0) ≡ false
+pub hears-so : (g : Ground) (q : TenantState) (s : Store) (piece : List ℕ) → (q.steps == 0) ≡ false
     → None ≡ stream_fault g.readings q.heard → is_held q ≡ false
     → (deed_result g s q (deeds.hears piece)).outcome ≡ leaves (with_step_spent (taken_in g s.tenant piece q))
     (messages_heard (length (new_messages g.readings q.heard piece)))
@@ -140,8 +140,8 @@ none-long [] e = refl
 none-long (x ∷ xs) e = absurd (cc)
 
 -- the code behind a piece
-pub does-hear : (g : Ground) (q : Quiet) (s : Store) (old new : Tenant) (piece : List ℕ) (count : ℕ)
-    → QuietStands g old q s → (q.steps == 0) ≡ false → None ≡ stream_fault g.readings q.heard
+pub does-hear : (g : Ground) (q : TenantState) (s : Store) (old new : Tenant) (piece : List ℕ) (count : ℕ)
+    → StandsForState g old q s → (q.steps == 0) ≡ false → None ≡ stream_fault g.readings q.heard
     → is_held q ≡ false
     → new.retries ≡ old.retries → new.steps ≡ old.steps - 1
     → new.memory.bare ≡ old.memory.bare → new.memory.spaces ≡ old.memory.spaces
@@ -154,7 +154,7 @@ does-hear g q s old new piece count st some sound free tries less bare spaces ce
     let after = taken_in g s.tenant piece q in
     let kept = taken-keeps g s.tenant piece q in
     let A : Attempts → Type 0 = λ x. Reaches x s in
-    let stands : QuietStands g new (with_step_spent after) s = record {
+    let stands : StandsForState g new (with_step_spent after) s = record {
       retries = tries ∙ st.retries;
       steps = less ∙ ap (λ n. n - 1) (st.steps ∙ sym kept.steps);
       stream = heard.reads.stands;
@@ -173,10 +173,10 @@ does-hear g q s old new piece count st some sound free tries less bare spaces ce
       after = with_step_spent after;
       accepted = hears-so g q s piece some sound free
           ∙ ap (λ n. leaves (with_step_spent after) (messages_heard n)) (sym heard.messages);
-      stands = subst (QuietStands g new (with_step_spent after)) (sym (hears-none g q s piece)) stands;
+      stands = subst (StandsForState g new (with_step_spent after)) (sym (hears-none g q s piece)) stands;
     }
 
-pub held-back : (g : Ground) (t : ℕ) (piece : List ℕ) (q : Quiet) → is_held q ≡ true
+pub held-back : (g : Ground) (t : ℕ) (piece : List ℕ) (q : TenantState) → is_held q ≡ true
     → hears_more g t piece q None ≡ refuses Refusal.Held
 held-back g t piece q held = ap (λ (b : Bool). held_by b) held where
   held_by : Bool → Outcome

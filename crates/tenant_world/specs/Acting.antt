@@ -1,7 +1,7 @@
 -- What an actor's step makes of the actor, beside what the rules make of the tenant.
 use Rattle.std.specs.Prelude.{List, [], ◌∷◌, Bool, true, false, Option, None, Some}
 use Rattle.ref_table.specs.Numbered.{Entry, without}
-use Rattle.server_rules.specs.Request.{Waiting, Hand}
+use Rattle.server_rules.specs.Request.{Waiting, WorkInHand}
 use Rattle.server_rules.specs.Tenant.{ActorData, seat_of}
 use Rattle.server_rules.specs.declared.actor.Actor.{Actor}
 
@@ -20,5 +20,5 @@ younger [] = []
 younger (w ∷ ws) = ws
 
 -- the oldest request waits no longer, and what is in hand is this
-abbrev pub with_next_in_hand : Option Hand → ActorData → ActorData
+abbrev pub with_next_in_hand : Option WorkInHand → ActorData → ActorData
 with_next_in_hand hand actor = record actor { waiting = younger actor.waiting; hand = hand }

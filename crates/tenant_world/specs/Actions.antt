@@ -12,19 +12,19 @@ use Rattle.private_cells.specs.Inside.Seen.{action_view}
 use Rattle.server_rules.specs.Asking.{sender_of}
 use Rattle.server_rules.specs.Cells.{SenderData}
 use Rattle.server_rules.specs.Cells as rules
-use Rattle.server_rules.specs.Request.{Manner, of_action, Hand}
+use Rattle.server_rules.specs.Request.{Manner, of_action, WorkInHand}
 use Rattle.server_rules.specs.declared.actor.Actor.{Actor}
 use Rattle.tenant_asks.specs.Sends.{OutgoingData, outgoing_view, outgoing_in, trace_of, all_sent}
 use Rattle.tenant_asks.specs.declared.sends.Outgoing.{Outgoing}
 use Rattle.tenant_world.specs.declared.actions.ActionEnd.{ActionEnd}
 use Rattle.tenant_world.specs.declared.actions.NextAction.{NextAction}
 
-abbrev pub next_view : NextAction → rules.NextAction
-next_view n = record { state = view n.state.now; action = action_view n.action.now }
+abbrev pub next_action_view : NextAction → rules.NextAction
+next_action_view n = record { state = view n.state.now; action = action_view n.action.now }
 
 -- the action in hand, which runs as this job
-abbrev pub hand_of : ActionData → JobData → Hand
-hand_of action job = record {
+abbrev pub hand_of_action : ActionData → JobData → WorkInHand
+hand_of_action action job = record {
   origin = action.origin;
   manner = of_action action.session;
   namespace = job.namespace;
@@ -58,7 +58,7 @@ end_by (of_action session) sender trace (Ok d) = finishes d (outgoing_in sender 
 end_by (of_action session) sender trace (Err f) = fails f
 end_by manner sender trace r = nothing
 
-abbrev pub action_end : Actor → Hand → Result Datum Failure → ActionEndData
+abbrev pub action_end : Actor → WorkInHand → Result Datum Failure → ActionEndData
 action_end a h r = end_by h.manner (sender_of a h) (trace_of h.running) r
 
 abbrev pub agents_behind : ActionEndData → AgentsData → AgentsData

@@ -4,7 +4,7 @@ use Rattle.std.specs.Prelude.{if◌then◌else◌}
 use Rattle.server_rules.specs.Ground.{Ground}
 use Rattle.server_rules.specs.Request.{Run}
 use Rattle.repl_asks.specs.Job.{EndingData}
-use Rattle.server_rules.specs.Tenant.{ActorData, Quiet, is_held}
+use Rattle.server_rules.specs.Tenant.{ActorData, TenantState, is_held}
 use Rattle.server_rules.specs.declared.refusal.Refusal.{Refusal}
 use Rattle.tenant_world.specs.Running.{running_of}
 
@@ -23,17 +23,17 @@ refusal_in (Ok x) = None
 refusal_in (Err why) = Some why
 
 -- the form that runs, unless its end is interrupted or held back whatever it is
-abbrev pub compared_run : ActorData → Quiet → Option Run
+abbrev pub compared_run : ActorData → TenantState → Option Run
 compared_run actor q =
     if actor.is_closed then None else if is_held q then None else running_of (Some actor)
 
 -- where the ending comes to be compared, it is not refused
-abbrev pub PassesComparison : Ground → ActorData → Quiet → EndingData → Type 0
+abbrev pub PassesComparison : Ground → ActorData → TenantState → EndingData → Type 0
 PassesComparison g actor q e =
     (run : Run) → compared_run actor q ≡ Some run → ending_refusal g run e ≡ None
 
 -- it is compared, and refused so
-pub record FailsComparison (g : Ground) (actor : ActorData) (q : Quiet) (e : EndingData)
+pub record FailsComparison (g : Ground) (actor : ActorData) (q : TenantState) (e : EndingData)
     (why : Refusal)
     : Type 0 where
   pub run : Run

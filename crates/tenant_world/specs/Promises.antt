@@ -8,39 +8,39 @@ use Rattle.server_rules.specs.Ground.{Ground}
 use Rattle.server_rules.specs.Grounds.{IsRight}
 use Rattle.server_rules.specs.Plan.{Deed, StepAnswer, asks_for, ends}
 use Rattle.ref_table.specs.Store.{Store}
-use Rattle.server_rules.specs.Tenant.{Quiet}
+use Rattle.server_rules.specs.Tenant.{TenantState}
 use Rattle.server_rules.specs.declared.actor.Actor.{Actor}
 use Rattle.server_rules.specs.declared.refusal.Refusal.{Refusal}
 use Rattle.tenant_asks.specs.Acting.{is_accepted}
 use Rattle.tenant_parts.specs.Serving.{RingRefTable, TableServes}
 use Rattle.tenant_world.specs.Running.{IsEndOfForm, running_in}
-use Rattle.tenant_world.specs.Standing.{QuietStands, AcceptsDeed, AcceptsDeedBy, RefusesDeed}
+use Rattle.tenant_world.specs.Standing.{StandsForState, AcceptsDeed, AcceptsDeedBy, RefusesDeed}
 use Rattle.tenant_world.specs.declared.tenant.Tenant.{Tenant}
 
 -- where the call succeeds, the deed is accepted, and this is its answer
 abbrev pub Does : {A : Type 0} → Deed → Tenant → Tenant → Result A Refusal → (A → StepAnswer)
     → Type 0
-Does deed old new result answer = (g : Ground) (q : Quiet) (s : Store) → IsRight g
-    → QuietStands g old q s
+Does deed old new result answer = (g : Ground) (q : TenantState) (s : Store) → IsRight g
+    → StandsForState g old q s
     → IfOk result (λ x. AcceptsDeed g (deed_result g s q deed) new (answer x))
 
 -- the same of a deed of an actor, which leaves every other actor as it was
 abbrev pub DoesBy : {A : Type 0} → Actor → Deed → Tenant → Tenant → Result A Refusal
     → (A → StepAnswer) → Type 0
-DoesBy a deed old new result answer = (g : Ground) (q : Quiet) (s : Store) → IsRight g
-    → QuietStands g old q s
+DoesBy a deed old new result answer = (g : Ground) (q : TenantState) (s : Store) → IsRight g
+    → StandsForState g old q s
     → IfOk result (λ x. AcceptsDeedBy g a q (deed_result g s q deed) new (answer x))
 
 -- where it fails, the deed is refused so, unless for want of memory, and nothing has changed
 abbrev pub Declines : {A : Type 0} → Deed → Tenant → Tenant → Result A Refusal → Type 0
-Declines deed old new result = (g : Ground) (q : Quiet) (s : Store) → IsRight g
-    → QuietStands g old q s
+Declines deed old new result = (g : Ground) (q : TenantState) (s : Store) → IsRight g
+    → StandsForState g old q s
     → IfErr result (RefusesDeed g q s (deed_result g s q deed) new)
 
 -- memory is refused only where the deed is accepted
 abbrev pub LacksMemory : {A : Type 0} → Deed → Tenant → Result A Refusal → Type 0
-LacksMemory deed old result = (g : Ground) (q : Quiet) (s : Store) → IsRight g
-    → QuietStands g old q s → result ≡ Err Refusal.NoMemory
+LacksMemory deed old result = (g : Ground) (q : TenantState) (s : Store) → IsRight g
+    → StandsForState g old q s → result ≡ Err Refusal.NoMemory
     → is_accepted (deed_result g s q deed).outcome ≡ true
 
 -- The same of what a form asks. The table of refs serves the tenant before and behind it.
@@ -48,8 +48,8 @@ LacksMemory deed old result = (g : Ground) (q : Quiet) (s : Store) → IsRight g
 abbrev pub DoesAsk : {A : Type 0} → Actor → AskData → Tenant → Tenant
     → RingRefTable → RingRefTable → Result A Refusal → (A → StepAnswer) → Type 0
 DoesAsk a ask old new table_old table_new result answer =
-    (g : Ground) (q : Quiet) (s : Store) (r : Refs) → IsRight g
-    → QuietStands g old q s → TableServes table_old s r
+    (g : Ground) (q : TenantState) (s : Store) (r : Refs) → IsRight g
+    → StandsForState g old q s → TableServes table_old s r
     → let d = deed_result g s q (asks_for a ask) in
     IfOk result (λ x. AcceptsDeedBy g a q d new (answer x)
     × TableServes table_new d.store (refs_after d.store r))
@@ -57,16 +57,16 @@ DoesAsk a ask old new table_old table_new result answer =
 abbrev pub DeclinesAsk : {A : Type 0} → Actor → AskData → Tenant → Tenant
     → RingRefTable → RingRefTable → Result A Refusal → Type 0
 DeclinesAsk a ask old new table_old table_new result =
-    (g : Ground) (q : Quiet) (s : Store) (r : Refs) → IsRight g
-    → QuietStands g old q s → TableServes table_old s r
+    (g : Ground) (q : TenantState) (s : Store) (r : Refs) → IsRight g
+    → StandsForState g old q s → TableServes table_old s r
     → let d = deed_result g s q (asks_for a ask) in
     IfErr result (λ why. RefusesDeed g q s d new why × TableServes table_new s r)
 
 abbrev pub AskLacksMemory : {A : Type 0} → Actor → AskData → Tenant → RingRefTable
     → Result A Refusal → Type 0
 AskLacksMemory a ask old table_old result =
-    (g : Ground) (q : Quiet) (s : Store) (r : Refs)
-    → QuietStands g old q s → TableServes table_old s r
+    (g : Ground) (q : TenantState) (s : Store) (r : Refs)
+    → StandsForState g old q s → TableServes table_old s r
     → result ≡ Err Refusal.NoMemory
     → is_accepted (deed_result g s q (asks_for a ask)).outcome ≡ true
 
@@ -75,20 +75,20 @@ AskLacksMemory a ask old table_old result =
 abbrev pub DoesEnd : {A : Type 0} → Actor → EndData → Tenant → Tenant → Result A Refusal
     → (A → StepAnswer) → Type 0
 DoesEnd a ended old new result answer =
-    (g : Ground) (q : Quiet) (s : Store) (e : EndingData) → IsRight g
-    → QuietStands g old q s → IsEndOfForm (running_in a q) ended e
+    (g : Ground) (q : TenantState) (s : Store) (e : EndingData) → IsRight g
+    → StandsForState g old q s → IsEndOfForm (running_in a q) ended e
     → IfOk result (λ x. AcceptsDeedBy g a q (deed_result g s q (ends a e)) new (answer x))
 
 abbrev pub DeclinesEnd : {A : Type 0} → Actor → EndData → Tenant → Tenant → Result A Refusal
     → Type 0
 DeclinesEnd a ended old new result =
-    (g : Ground) (q : Quiet) (s : Store) (e : EndingData) → IsRight g
-    → QuietStands g old q s → IsEndOfForm (running_in a q) ended e
+    (g : Ground) (q : TenantState) (s : Store) (e : EndingData) → IsRight g
+    → StandsForState g old q s → IsEndOfForm (running_in a q) ended e
     → IfErr result (RefusesDeed g q s (deed_result g s q (ends a e)) new)
 
 abbrev pub EndLacksMemory : {A : Type 0} → Actor → EndData → Tenant → Result A Refusal → Type 0
 EndLacksMemory a ended old result =
-    (g : Ground) (q : Quiet) (s : Store) (e : EndingData) → IsRight g
-    → QuietStands g old q s → IsEndOfForm (running_in a q) ended e
+    (g : Ground) (q : TenantState) (s : Store) (e : EndingData) → IsRight g
+    → StandsForState g old q s → IsEndOfForm (running_in a q) ended e
     → result ≡ Err Refusal.NoMemory
     → is_accepted (deed_result g s q (ends a e)).outcome ≡ true

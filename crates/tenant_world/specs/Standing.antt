@@ -4,7 +4,7 @@ use Rattle.bencode_wire.specs.Inside.Decoder as decoder
 use Rattle.server_rules.specs.Ground.{Ground}
 use Rattle.server_rules.specs.Readings.{message_limit}
 use Rattle.ref_table.specs.Numbered.{part_under, with_part}
-use Rattle.server_rules.specs.Tenant.{ActorData, Quiet, seat_of}
+use Rattle.server_rules.specs.Tenant.{ActorData, TenantState, seat_of}
 use Rattle.server_rules.specs.Plan.{StepAnswer, refuses, leaves}
 use Rattle.ref_table.specs.Store.{Store}
 use Rattle.server_rules.specs.declared.actor.Actor.{Actor}
@@ -17,7 +17,7 @@ use Rattle.tenant_asks.specs.Memories.{Remembers}
 use Rattle.tenant_world.specs.declared.tenant.Tenant.{Tenant}
 
 -- the tenant whose store this is
-pub record QuietStands (g : Ground) (code : Tenant) (q : Quiet) (s : Store) : Type 0 where
+pub record StandsForState (g : Ground) (code : Tenant) (q : TenantState) (s : Store) : Type 0 where
   pub retries : code.retries ≡ g.retries
   pub steps : code.steps ≡ q.steps
   -- the decoder has read all that was heard, and its messages were taken
@@ -28,7 +28,7 @@ pub record QuietStands (g : Ground) (code : Tenant) (q : Quiet) (s : Store) : Ty
   pub attempts : Reaches code.attempts s
 
 -- the same but for the memory and the attempts, where the state of this actor was lent and is this
-pub record Lends (g : Ground) (a : Actor) (state : ActorData) (code : Tenant) (q : Quiet)
+pub record Lends (g : Ground) (a : Actor) (state : ActorData) (code : Tenant) (q : TenantState)
     : Type 0 where
   pub retries : code.retries ≡ g.retries
   pub steps : code.steps ≡ q.steps
@@ -39,24 +39,24 @@ pub record Lends (g : Ground) (a : Actor) (state : ActorData) (code : Tenant) (q
 -- the deed is accepted with this answer, and the code stands for the tenant behind it
 pub record AcceptsDeed (g : Ground) (d : DeedResult) (code : Tenant)
     (answer : StepAnswer) : Type 0 where
-  pub after : Quiet
+  pub after : TenantState
   pub accepted : d.outcome ≡ leaves after answer
-  pub stands : QuietStands g code after d.store
+  pub stands : StandsForState g code after d.store
 
 -- the deed of an actor, which leaves every other actor as it was
-pub record AcceptsDeedBy (g : Ground) (a : Actor) (q : Quiet) (d : DeedResult) (code : Tenant)
+pub record AcceptsDeedBy (g : Ground) (a : Actor) (q : TenantState) (d : DeedResult) (code : Tenant)
     (answer : StepAnswer) : Type 0 where
-  pub after : Quiet
+  pub after : TenantState
   pub accepted : d.outcome ≡ leaves after answer
-  pub stands : QuietStands g code after d.store
+  pub stands : StandsForState g code after d.store
   pub others : (b : Actor) → seat_of b ≢ seat_of a
       → part_under (seat_of b) after.actors ≡ part_under (seat_of b) q.actors
 
 -- the deed is refused so, unless for want of memory, and the code stands for the tenant as it was
-pub record RefusesDeed (g : Ground) (q : Quiet) (s : Store) (d : DeedResult) (code : Tenant)
+pub record RefusesDeed (g : Ground) (q : TenantState) (s : Store) (d : DeedResult) (code : Tenant)
     (why : Refusal) : Type 0 where
   pub refused : why ≢ Refusal.NoMemory → d.outcome ≡ refuses why
-  pub stands : QuietStands g code q s
+  pub stands : StandsForState g code q s
 
 -- the replies that wait, oldest first, each as its bytes
 abbrev pub replies_of : Tenant → List (List ℕ)

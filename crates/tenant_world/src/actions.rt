@@ -5,11 +5,11 @@ ghost use Rattle.private_cells.specs.Inside.View.{agents_view, room_of};
 ghost use Rattle.server_rules.specs.Cells.{next_action};
 ghost use Rattle.server_rules.specs.Ground.{Ground};
 ghost use Rattle.server_rules.specs.Starting.{action_for, action_job, start_action};
-ghost use Rattle.server_rules.specs.Tenant.{Quiet};
+ghost use Rattle.server_rules.specs.Tenant.{TenantState};
 ghost use Rattle.tenant_parts.specs.View.{actor_view, hand_view};
 ghost use Rattle.tenant_asks.specs.Acting.{AcceptsOutcome, RefusesOutcome, IsActorStep};
 ghost use Rattle.tenant_asks.specs.Acting.{is_accepted};
-ghost use Rattle.tenant_world.specs.Actions.{next_view, hand_of, action_end, agents_behind};
+ghost use Rattle.tenant_world.specs.Actions.{next_action_view, hand_of_action, action_end, agents_behind};
 ghost use Rattle.tenant_world.specs.Actions.{action_end_view, sends_of};
 ghost use Rattle.tenant_world.specs.Answers.{start_answer_view, AreSameStarts};
 ghost use Rattle.tenant_asks.specs.Memories.{Remembers};
@@ -22,8 +22,8 @@ use server_rules::{Actor, Refusal};
 use std::alloc::{AllocError, Global};
 use std::collections::VecDeque;
 use std::sync::{Arc, ArcStr};
-use tenant_asks::{Memory, Outgoing, Sender, send_all, sends_in};
-use tenant_parts::{ActorState, Hand, Manner, Run};
+use tenant_asks::{Remembered, Outgoing, Sender, send_all, sends_in};
+use tenant_parts::{ActorState, WorkInHand, Manner, Run};
 
 /// The action that begins next, and the state of its agent.
 #[derive(Clone, Copy)]
@@ -49,21 +49,21 @@ pub(crate) enum ActionEnd {
 /// nothing has changed.
 pub(crate) fn start_action(
     alloc: Global,
-    memory: &mut Memory,
+    memory: &mut Remembered,
     retries: u32,
     actor: Actor,
     state: &mut ActorState,
 ) -> Result<StartAnswers, Refusal>
-    ensures acted { (g : Ground) (t : ℕ) (q : Quiet) → retries ≡ g.retries
+    ensures acted { (g : Ground) (t : ℕ) (q : TenantState) → retries ≡ g.retries
         → Remembers g t memory.old q
         → IfOk result (λ s. AcceptsOutcome g t actor q
         (start_action g actor (actor_view state.old) q (action_for actor q.cells.agents))
         memory.new (actor_view state.new) (start_answer_view s.given)) }
-    ensures declined { (g : Ground) (t : ℕ) (q : Quiet) → retries ≡ g.retries
+    ensures declined { (g : Ground) (t : ℕ) (q : TenantState) → retries ≡ g.retries
         → Remembers g t memory.old q → IfErr result (RefusesOutcome g t q
         (start_action g actor (actor_view state.old) q (action_for actor q.cells.agents))
         memory.new) }
-    ensures no_memory { (g : Ground) (t : ℕ) (q : Quiet) → Remembers g t memory.old q
+    ensures no_memory { (g : Ground) (t : ℕ) (q : TenantState) → Remembers g t memory.old q
         → result ≡ Err Refusal.NoMemory → is_accepted
         (start_action g actor (actor_view state.old) q (action_for actor q.cells.agents)) ≡ true }
     ensures same { IfOk result AreSameStarts }
@@ -86,7 +86,7 @@ pub(crate) fn start_action(
 }
 
 fn next_for<'a>(actor: Actor, agents: &'a Agents) -> Option<NextAction<'a>>
-    ensures { option_map next_view result ≡ action_for actor (agents_view agents.now) }
+    ensures { option_map next_action_view result ≡ action_for actor (agents_view agents.now) }
 {
     match actor {
         Actor::Agents => next_action(agents),
@@ -95,7 +95,7 @@ fn next_for<'a>(actor: Actor, agents: &'a Agents) -> Option<NextAction<'a>>
 }
 
 fn next_action<'a>(agents: &'a Agents) -> Option<NextAction<'a>>
-    ensures { option_map next_view result ≡ next_action (agents_view agents.now) }
+    ensures { option_map next_action_view result ≡ next_action (agents_view agents.now) }
 {
     let number = agents.next_agent()?;
     let sent = agents.first_waiting(number)?;
@@ -108,7 +108,7 @@ fn next_action<'a>(agents: &'a Agents) -> Option<NextAction<'a>>
 
 fn job_of(alloc: Global, retries: u32, next: NextAction<'_>) -> Result<Job, AllocError>
     ensures { (g : Ground) → retries ≡ g.retries
-        → IfOk result (λ job. job_view job ≡ action_job g (next_view next.entry)) }
+        → IfOk result (λ job. job_view job ≡ action_job g (next_action_view next.entry)) }
 {
     Ok(Job {
         work: Work::Action(copy(next.state)?, Arc::try_clone(&next.action.task)?),
@@ -118,11 +118,11 @@ fn job_of(alloc: Global, retries: u32, next: NextAction<'_>) -> Result<Job, Allo
 }
 
 // The action in hand, which runs as this job.
-fn hand_of(alloc: Global, next: NextAction<'_>, job: Job) -> Result<Hand, AllocError>
+fn hand_of(alloc: Global, next: NextAction<'_>, job: Job) -> Result<WorkInHand, AllocError>
     ensures { IfOk result (λ hand. hand_view hand
-        ≡ hand_of (next_view next.entry).action (job_view job)) }
+        ≡ hand_of_action (next_action_view next.entry).action (job_view job)) }
 {
-    Ok(Hand {
+    Ok(WorkInHand {
         origin: Arc::try_clone(&next.action.origin)?,
         manner: Manner::OfAction(next.action.session),
         namespace: copy_text(&job.namespace)?,
@@ -141,7 +141,7 @@ pub(crate) fn prepare_end(
     alloc: Global,
     agents: &mut Agents,
     actor: Actor,
-    hand: &Hand,
+    hand: &WorkInHand,
     end: &End,
 ) -> Result<ActionEnd, AllocError>
     ensures made { IfOk result (λ it. action_end_view it

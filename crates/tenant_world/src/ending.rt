@@ -5,7 +5,7 @@ ghost use Rattle.repl_asks.specs.Inside.Jobs.{finished_view};
 ghost use Rattle.server_rules.specs.Ground.{Ground};
 ghost use Rattle.server_rules.specs.Request as rules;
 ghost use Rattle.ref_table.specs.Store.{Store};
-ghost use Rattle.server_rules.specs.Tenant.{Quiet};
+ghost use Rattle.server_rules.specs.Tenant.{TenantState};
 ghost use Rattle.server_rules.specs.Ending.{end_of, end_accepted};
 ghost use Rattle.tenant_parts.specs.Aside.{printed_in};
 ghost use Rattle.tenant_parts.specs.Printed.{PrintsEnd};
@@ -25,11 +25,11 @@ ghost use Rattle.tenant_moves.specs.Endings.{hand_after};
 
 use crate::actions::{prepare_end, settle_end};
 use crate::answers::{EndAnswer, Ending};
-use crate::starting::post_news;
+use crate::starting::post_effects;
 use repl_asks::Finished;
 use server_rules::{Actor, Refusal};
 use std::alloc::{AllocError, Global};
-use tenant_asks::{Memory, interrupt};
+use tenant_asks::{Remembered, interrupt};
 use tenant_moves::{After, form_end, go_on};
 use tenant_parts::{ActorState, Aside, Attempts, Left, Run};
 use trace_comparison::laws::{equal_traces_differ_nowhere, first_difference_is_unique};
@@ -38,7 +38,7 @@ use trace_comparison::{first_difference, same_job};
 /// The form of the actor that runs has ended so. Where it is refused nothing has changed.
 pub(crate) fn end(
     alloc: Global,
-    memory: &mut Memory,
+    memory: &mut Remembered,
     attempts: &mut Attempts,
     actor: Actor,
     state: &mut ActorState,
@@ -46,19 +46,19 @@ pub(crate) fn end(
     aside: &mut Aside,
 ) -> Result<EndAnswer, Refusal>
     requires { PrintsEnd (printed_in aside.old) (told_ending ending.now).end }
-    ensures acted { (g : Ground) (q : Quiet) (s : Store) → IsRight g
+    ensures acted { (g : Ground) (q : TenantState) (s : Store) → IsRight g
         → Remembers g s.tenant memory.old q → Reaches attempts.old s
         → let d = carried_out s (end_of g actor (actor_view state.old) (told_ending ending.now) q
         (actor_view state.old).hand) in IfOk result (λ x.
         AcceptsOutcome g s.tenant actor q d.outcome memory.new (actor_view state.new)
         (end_answer_view x)
         × Reaches attempts.new d.store) }
-    ensures declined { (g : Ground) (q : Quiet) (s : Store) → IsRight g
+    ensures declined { (g : Ground) (q : TenantState) (s : Store) → IsRight g
         → Remembers g s.tenant memory.old q → Reaches attempts.old s
         → let d = carried_out s (end_of g actor (actor_view state.old) (told_ending ending.now) q
         (actor_view state.old).hand) in IfErr result (λ why.
         RefusesOutcome g s.tenant q d.outcome memory.new why × Reaches attempts.new s) }
-    ensures no_memory { (g : Ground) (q : Quiet) (s : Store) → IsRight g
+    ensures no_memory { (g : Ground) (q : TenantState) (s : Store) → IsRight g
         → Remembers g s.tenant memory.old q → result ≡ Err Refusal.NoMemory
         → is_accepted (carried_out s (end_of g actor (actor_view state.old)
         (told_ending ending.now) q (actor_view state.old).hand)).outcome ≡ true }
@@ -81,7 +81,7 @@ pub(crate) fn end(
 /// nothing is compared. Where it is refused nothing has changed.
 pub(crate) fn finish(
     alloc: Global,
-    memory: &mut Memory,
+    memory: &mut Remembered,
     attempts: &mut Attempts,
     actor: Actor,
     state: &mut ActorState,
@@ -89,7 +89,7 @@ pub(crate) fn finish(
     aside: &mut Aside,
 ) -> Result<EndAnswer, Refusal>
     requires { PrintsEnd (printed_in aside.old) (finished_view finished.now) }
-    ensures acted { (g : Ground) (q : Quiet) (s : Store) (e : EndingData)
+    ensures acted { (g : Ground) (q : TenantState) (s : Store) (e : EndingData)
         → e.end ≡ finished_view finished.now → PassesComparison g (actor_view state.old) q e
         → Remembers g s.tenant memory.old q → Reaches attempts.old s
         → let d = carried_out s (end_of g actor (actor_view state.old) e q
@@ -97,12 +97,12 @@ pub(crate) fn finish(
         AcceptsOutcome g s.tenant actor q d.outcome memory.new (actor_view state.new)
         (end_answer_view x)
         × Reaches attempts.new d.store) }
-    ensures declined { (g : Ground) (q : Quiet) (s : Store) (e : EndingData)
+    ensures declined { (g : Ground) (q : TenantState) (s : Store) (e : EndingData)
         → Remembers g s.tenant memory.old q → Reaches attempts.old s
         → let d = carried_out s (end_of g actor (actor_view state.old) e q
         (actor_view state.old).hand) in IfErr result (λ why.
         RefusesOutcome g s.tenant q d.outcome memory.new why × Reaches attempts.new s) }
-    ensures no_memory { (g : Ground) (q : Quiet) (s : Store) (e : EndingData)
+    ensures no_memory { (g : Ground) (q : TenantState) (s : Store) (e : EndingData)
         → PassesComparison g (actor_view state.old) q e → Remembers g s.tenant memory.old q
         → result ≡ Err Refusal.NoMemory → is_accepted (carried_out s (end_of g actor
         (actor_view state.old) e q (actor_view state.old).hand)).outcome ≡ true }
@@ -130,12 +130,12 @@ pub(crate) fn finish(
 
 // Whether the ending may be that of the form that runs. Where the form's end is interrupted or held
 // back whatever it is, nothing is compared.
-fn compare_if_due(memory: &Memory, state: &ActorState, ending: &Ending<'_>) -> Result<(), Refusal>
+fn compare_if_due(memory: &Remembered, state: &ActorState, ending: &Ending<'_>) -> Result<(), Refusal>
     ensures free { IfErr result (λ why. why ≢ Refusal.Held) }
     ensures frugal { IfErr result (λ why. why ≢ Refusal.NoMemory) }
-    ensures passed { (g : Ground) (t : ℕ) (q : Quiet) → IsRight g → Remembers g t memory.now q
+    ensures passed { (g : Ground) (t : ℕ) (q : TenantState) → IsRight g → Remembers g t memory.now q
         → OnOk result (PassesComparison g (actor_view state.now) q (told_ending ending.now)) }
-    ensures failed { (g : Ground) (t : ℕ) (q : Quiet) → IsRight g → Remembers g t memory.now q
+    ensures failed { (g : Ground) (t : ℕ) (q : TenantState) → IsRight g → Remembers g t memory.now q
         → IfErr result (FailsComparison g (actor_view state.now) q (told_ending ending.now)) }
 {
     match run_to_compare(memory, state) {
@@ -145,8 +145,8 @@ fn compare_if_due(memory: &Memory, state: &ActorState, ending: &Ending<'_>) -> R
 }
 
 // The form that runs, unless its end is interrupted or held back whatever it is.
-fn run_to_compare<'a>(memory: &Memory, state: &'a ActorState) -> Option<&'a Run>
-    ensures { (g : Ground) (t : ℕ) (q : Quiet) → Remembers g t memory.now q
+fn run_to_compare<'a>(memory: &Remembered, state: &'a ActorState) -> Option<&'a Run>
+    ensures { (g : Ground) (t : ℕ) (q : TenantState) → Remembers g t memory.now q
         → option_map (λ run. run_view run.now) result ≡ compared_run (actor_view state.now) q }
 {
     if state.is_closed || memory.outbox.is_held() {
@@ -178,21 +178,21 @@ fn compare(run: &Run, ending: &Ending<'_>) -> Result<(), Refusal>
 // state of its agent, and what it sends is sent.
 fn accept(
     alloc: Global,
-    memory: &mut Memory,
+    memory: &mut Remembered,
     actor: Actor,
     state: &mut ActorState,
     finished: &Finished,
     aside: &mut Aside,
 ) -> Result<(), AllocError>
     requires { PrintsEnd (printed_in aside.old) (finished_view finished.now) }
-    ensures acted { (g : Ground) (q : Quiet) (s : Store) (h : rules.Hand) (run : rules.Run)
+    ensures acted { (g : Ground) (q : TenantState) (s : Store) (h : rules.WorkInHand) (run : rules.Run)
         (e : EndingData) → e.end ≡ finished_view finished.now
         → Remembers g s.tenant memory.old q → (actor_view state.old).hand ≡ Some h
         → h.running ≡ Some run
         → OnOk result (AcceptsOutcome g s.tenant actor q (carried_out s (end_accepted actor
         (actor_view state.old) h run e q)).outcome memory.new
         (actor_view state.new) form_finished) }
-    ensures stays { (g : Ground) (t : ℕ) (q : Quiet) → Remembers g t memory.old q
+    ensures stays { (g : Ground) (t : ℕ) (q : TenantState) → Remembers g t memory.old q
         → OnErr result (Remembers g t memory.new q) }
     ensures actor { OnErr result (actor_view state.new ≡ actor_view state.old) }
     ensures opened { opened_by memory.new ≡ opened_by memory.old }
@@ -203,8 +203,8 @@ fn accept(
     };
     let agents = &mut memory.cells.agents;
     let end = prepare_end(alloc, agents, actor, hand, finished.end())?;
-    let (news, after) = form_end(alloc, hand, finished, aside.printed(), session)?;
-    post_news(memory, actor, news)?;
+    let (effects, after) = form_end(alloc, hand, finished, aside.printed(), session)?;
+    post_effects(memory, actor, effects)?;
     settle_end(&mut memory.cells.agents, end);
     aside.left = put_after(state, after);
     Ok(())
@@ -212,14 +212,14 @@ fn accept(
 
 // The request goes on behind a form, or is done. What it needs no more is given.
 fn put_after(state: &mut ActorState, after: After) -> Left
-    ensures { (h : rules.Hand) → (actor_view state.old).hand ≡ Some h
+    ensures { (h : rules.WorkInHand) → (actor_view state.old).hand ≡ Some h
         → actor_view state.new ≡ record (actor_view state.old) { hand = hand_after h after } }
 {
     let Some(mut hand) = state.hand.take() else {
         return Left::Nothing;
     };
     match after {
-        After::Over => Left::Hand(hand),
+        After::Over => Left::WorkInHand(hand),
         next => {
             let run = hand.running.take();
             state.hand = go_on(hand, next);

@@ -3,7 +3,7 @@ ghost use Rattle.std.specs.Prelude.{◌≡◌, ◌≢◌, ◌+◌, ◌<◌, ℕ,
 ghost use Rattle.std.specs.Prelude.{OnErr, MatchOption, IfSome, true, false, option_copied};
 ghost use Rattle.name_spaces.specs.Inside.Seen.{shared_bindings};
 ghost use Rattle.server_rules.specs.Ground.{Ground};
-ghost use Rattle.server_rules.specs.Tenant.{Quiet, opened_quiet};
+ghost use Rattle.server_rules.specs.Tenant.{TenantState, opened_state};
 ghost use Rattle.server_rules.specs.Machine.Ready.{ready};
 ghost use Rattle.server_rules.specs.Plan as deeds;
 ghost use Rattle.server_rules.specs.Plan.{reply_given};
@@ -12,7 +12,7 @@ ghost use Rattle.tenant_parts.specs.View.{run_view, actors_view};
 ghost use Rattle.server_rules.specs.Grounds.{IsRight};
 ghost use Rattle.ref_table.specs.Store.{Store};
 ghost use Rattle.server_rules.specs.DeedResult.{deed_result};
-ghost use Rattle.server_rules.specs.LoneTurns.{Lone, agents_last};
+ghost use Rattle.server_rules.specs.LoneTurns.{LoneTenant, agents_last};
 ghost use Rattle.server_rules.specs.Inside.Rounds.{IsEnough};
 ghost use Rattle.server_rules.specs.Inside.Wires.{wire_at};
 ghost use Rattle.tenant_asks.specs.Acting.{is_accepted};
@@ -28,11 +28,11 @@ use private_cells::{Agents, Atoms};
 use repl_sessions::{IdStream, SessionState, Sessions};
 use server_rules::{Actor, MESSAGE_LIMIT, Refusal, Wire};
 use std::alloc::{AllocError, Global};
-use tenant_asks::{Cells, Memory};
+use tenant_asks::{Cells, Remembered};
 use tenant_parts::{Actors, Attempts, Outbox, Run};
 
 impl Tenant {
-    ghost use Rattle.tenant_world.specs.Standing.{QuietStands, AcceptsDeed, RefusesDeed};
+    ghost use Rattle.tenant_world.specs.Standing.{StandsForState, AcceptsDeed, RefusesDeed};
     ghost use Rattle.tenant_world.specs.Standing.{replies_of};
 
     /// A tenant that has heard nothing. Its number chooses the ids of its sessions, under the
@@ -48,10 +48,10 @@ impl Tenant {
         ensures { (g : Ground) → IsRight g → g.shared.names ≡ shared_bindings shared
             → g.seed ≡ seed → g.steps ≡ steps → g.retries ≡ retries
             → (s : Store) → s.tenant ≡ number → s.mine.points ≡ []
-            → IfOk result (λ made. QuietStands g made (opened_quiet g) s) }
+            → IfOk result (λ made. StandsForState g made (opened_state g) s) }
     {
         a_stream_has_one_reading();
-        let memory = Memory {
+        let memory = Remembered {
             sessions: Sessions::new(alloc, IdStream::new(seed, number)),
             bare: SessionState::fresh(alloc)?,
             spaces: Spaces::new(alloc, shared)?,
@@ -78,7 +78,7 @@ impl Tenant {
         ensures oldest { MatchOption result
             ((replies_of self.old ≡ []) × (replies_of self.new ≡ []))
             (λ reply. replies_of self.old ≡ reply.items ∷ replies_of self.new) }
-        ensures drained { (g : Ground) (q : Quiet) (s : Store) → QuietStands g self.old q s
+        ensures drained { (g : Ground) (q : TenantState) (s : Store) → StandsForState g self.old q s
             → MatchOption result
             (RefusesDeed g q s (deed_result g s q deeds.drains) self.new Refusal.Idle)
             (λ reply. AcceptsDeed g (deed_result g s q deeds.drains) self.new
@@ -89,14 +89,14 @@ impl Tenant {
 
     /// The same, with the reply twice. It fails only for want of memory, and then changes nothing.
     pub fn drain_copied(&mut self) -> Result<Option<Replies>, AllocError>
-        ensures drained { (g : Ground) (q : Quiet) (s : Store) → QuietStands g self.old q s
+        ensures drained { (g : Ground) (q : TenantState) (s : Store) → StandsForState g self.old q s
             → IfOk result (λ it. MatchOption it
             (RefusesDeed g q s (deed_result g s q deeds.drains) self.new Refusal.Idle)
             (λ replies. AcceptsDeed g (deed_result g s q deeds.drains) self.new
             (reply_given replies.given.items))) }
         ensures same { IfOk result (λ it. IfSome it AreSameReplies) }
         ensures stays { OnErr result (self.new ≡ self.old) }
-        ensures no_memory { (g : Ground) (q : Quiet) (s : Store) → QuietStands g self.old q s
+        ensures no_memory { (g : Ground) (q : TenantState) (s : Store) → StandsForState g self.old q s
             → OnErr result (is_accepted (deed_result g s q deeds.drains).outcome ≡ true) }
     {
         let noted = self.copy_oldest()?;
@@ -121,7 +121,7 @@ impl Tenant {
     /// The first actor that has a form or a request to begin. It takes a step for each that has
     /// something to do, up to that one, and no memory.
     pub fn ready(&self) -> Option<Actor>
-        ensures { (g : Ground) (q : Quiet) (s : Store) → QuietStands g self.now q s
+        ensures { (g : Ground) (q : TenantState) (s : Store) → StandsForState g self.now q s
             → result ≡ ready q }
     {
         self.actors.ready()
@@ -131,7 +131,7 @@ impl Tenant {
     /// be a step for each of these. It takes a step for each of them, and fails only for want of
     /// memory.
     pub fn round(&self, alloc: Global) -> Result<Vec<Actor>, AllocError>
-        ensures { (g : Ground) (l : Lone) → QuietStands g self.now l.quiet l.store
+        ensures { (g : Ground) (l : LoneTenant) → StandsForState g self.now l.state l.store
             → IfOk result (λ actors. IsEnough l actors.items) }
     {
         let found = self.actors.busy(alloc)?;
@@ -145,7 +145,7 @@ impl Tenant {
 
     /// The form of an actor that runs, if one does: its job, and what it asked and was answered.
     pub fn running(&self, actor: Actor) -> Option<&Run>
-        ensures { (g : Ground) (q : Quiet) (s : Store) → QuietStands g self.now q s
+        ensures { (g : Ground) (q : TenantState) (s : Store) → StandsForState g self.now q s
             → option_map (λ run. run_view run.now) result ≡ running_in actor q }
     {
         self.actors.get(actor)?.hand.as_ref()?.running.as_ref()
@@ -178,7 +178,7 @@ impl Tenant {
 
     /// What has come of the stream. It takes no memory.
     pub fn wire(&self) -> Wire
-        ensures { (g : Ground) (q : Quiet) (s : Store) → IsRight g → QuietStands g self.now q s
+        ensures { (g : Ground) (q : TenantState) (s : Store) → IsRight g → StandsForState g self.now q s
             → result ≡ wire_at (g.readings.stream q.heard).ending }
     {
         a_stream_has_one_reading();

@@ -6,12 +6,12 @@ ghost use Rattle.server_rules.specs.Request as rules;
 ghost use Rattle.server_rules.specs.Starting.{start_waiting, held_or, start_outcome, next_begun};
 ghost use Rattle.server_rules.specs.Starting.{Started};
 ghost use Rattle.server_rules.specs.Moves.{Move};
-ghost use Rattle.server_rules.specs.Tenant.{Quiet, actor_state, is_held};
+ghost use Rattle.server_rules.specs.Tenant.{TenantState, actor_state, is_held};
 ghost use Rattle.server_rules.specs.Tenant.{with_state, with_replies};
 ghost use Rattle.server_rules.specs.Deeds.{start_of};
 ghost use Rattle.tenant_parts.specs.View.{actor_view, hand_view, waiting_view};
-ghost use Rattle.tenant_moves.specs.Told.{Tells};
-ghost use Rattle.tenant_moves.specs.Starts.{hand_begun, answer_given, given_job, GoesOn};
+ghost use Rattle.tenant_moves.specs.Told.{TellsMove};
+ghost use Rattle.tenant_moves.specs.Starts.{hand_begun, answer_given, given_job, StartsForm};
 ghost use Rattle.server_rules.specs.Grounds.{IsRight};
 ghost use Rattle.tenant_asks.specs.Memories.{Remembers, opened_by};
 ghost use Rattle.tenant_world.specs.Answers.{start_answer_view, AreSameStarts};
@@ -24,28 +24,28 @@ use crate::answers::{StartAnswer, StartAnswers};
 use repl_asks::Job;
 use server_rules::{Actor, Refusal};
 use std::alloc::{AllocError, Global};
-use tenant_asks::{Memory, interrupt};
-use tenant_moves::{Begun, BegunRequest, News, NextForm, begin, begin_request, next_form};
-use tenant_parts::{ActorState, Aside, Hand, Left, Waiting};
+use tenant_asks::{Remembered, interrupt};
+use tenant_moves::{Begun, BegunRequest, RequestEffects, NextForm, begin, begin_request, next_form};
+use tenant_parts::{ActorState, Aside, WorkInHand, Left, Waiting};
 
 /// The actor begins its next form, or takes up its next request. Where it is refused nothing has
 /// changed.
 pub(crate) fn start(
     alloc: Global,
-    memory: &mut Memory,
+    memory: &mut Remembered,
     retries: u32,
     actor: Actor,
     state: &mut ActorState,
     aside: &mut Aside,
 ) -> Result<StartAnswers, Refusal>
-    ensures acted { (g : Ground) (t : ℕ) (q : Quiet) → IsRight g → retries ≡ g.retries
+    ensures acted { (g : Ground) (t : ℕ) (q : TenantState) → IsRight g → retries ≡ g.retries
         → Remembers g t memory.old q → IfOk result (λ s. AcceptsOutcome g t actor q
         (start_of g actor (actor_view state.old) q (actor_view state.old).hand)
         memory.new (actor_view state.new) (start_answer_view s.given)) }
-    ensures declined { (g : Ground) (t : ℕ) (q : Quiet) → IsRight g → retries ≡ g.retries
+    ensures declined { (g : Ground) (t : ℕ) (q : TenantState) → IsRight g → retries ≡ g.retries
         → Remembers g t memory.old q → IfErr result (RefusesOutcome g t q
         (start_of g actor (actor_view state.old) q (actor_view state.old).hand) memory.new) }
-    ensures no_memory { (g : Ground) (t : ℕ) (q : Quiet) → Remembers g t memory.old q
+    ensures no_memory { (g : Ground) (t : ℕ) (q : TenantState) → Remembers g t memory.old q
         → result ≡ Err Refusal.NoMemory → is_accepted
         (start_of g actor (actor_view state.old) q (actor_view state.old).hand) ≡ true }
     ensures same { IfOk result AreSameStarts }
@@ -68,23 +68,23 @@ pub(crate) fn start(
 // The next form of the request in hand.
 fn start_form(
     alloc: Global,
-    memory: &mut Memory,
+    memory: &mut Remembered,
     retries: u32,
     actor: Actor,
     state: &mut ActorState,
 ) -> Result<StartAnswers, Refusal>
-    ensures acted { (g : Ground) (t : ℕ) (q : Quiet) (h : rules.Hand) → retries ≡ g.retries
+    ensures acted { (g : Ground) (t : ℕ) (q : TenantState) (h : rules.WorkInHand) → retries ≡ g.retries
         → Remembers g t memory.old q → (actor_view state.old).hand ≡ Some h
         → IfOk result (λ s. AcceptsOutcome g t actor q
         (held_or q (start_outcome actor (actor_view state.old)
         (next_begun g h (actor_state actor q) h.forms) q))
         memory.new (actor_view state.new) (start_answer_view s.given)) }
-    ensures declined { (g : Ground) (t : ℕ) (q : Quiet) (h : rules.Hand) → retries ≡ g.retries
+    ensures declined { (g : Ground) (t : ℕ) (q : TenantState) (h : rules.WorkInHand) → retries ≡ g.retries
         → Remembers g t memory.old q → (actor_view state.old).hand ≡ Some h
         → IfErr result (RefusesOutcome g t q
         (held_or q (start_outcome actor (actor_view state.old)
         (next_begun g h (actor_state actor q) h.forms) q)) memory.new) }
-    ensures no_memory { (g : Ground) (t : ℕ) (q : Quiet) (h : rules.Hand)
+    ensures no_memory { (g : Ground) (t : ℕ) (q : TenantState) (h : rules.WorkInHand)
         → Remembers g t memory.old q → result ≡ Err Refusal.NoMemory
         → is_accepted (held_or q (start_outcome actor (actor_view state.old)
         (next_begun g h (actor_state actor q) h.forms) q)) ≡ true }
@@ -108,41 +108,41 @@ fn start_form(
 // nothing.
 fn enter_form(
     alloc: Global,
-    memory: &mut Memory,
+    memory: &mut Remembered,
     actor: Actor,
     state: &mut ActorState,
     next: NextForm,
 ) -> Result<StartAnswers, AllocError>
-    ensures acted { (g : Ground) (t : ℕ) (q : Quiet) (h : rules.Hand) (start : Started)
+    ensures acted { (g : Ground) (t : ℕ) (q : TenantState) (h : rules.WorkInHand) (start : Started)
         → Remembers g t memory.old q → is_held q ≡ false → (actor_view state.old).hand ≡ Some h
-        → GoesOn start h next → IfOk result (λ s. AcceptsOutcome g t actor q
+        → StartsForm start h next → IfOk result (λ s. AcceptsOutcome g t actor q
         (held_or q (start_outcome actor (actor_view state.old) start q))
         memory.new (actor_view state.new) (start_answer_view s.given)) }
-    ensures stays { (g : Ground) (t : ℕ) (q : Quiet) → Remembers g t memory.old q
+    ensures stays { (g : Ground) (t : ℕ) (q : TenantState) → Remembers g t memory.old q
         → OnErr result (Remembers g t memory.new q) }
     ensures kept { OnErr result (actor_view state.new ≡ actor_view state.old) }
     ensures opened { opened_by memory.new ≡ opened_by memory.old }
     ensures same { IfOk result AreSameStarts }
 {
-    let NextForm { news, begun } = next;
+    let NextForm { effects, begun } = next;
     let noted = begun_answer(&begun)?;
-    post_news(memory, actor, news)?;
+    post_effects(memory, actor, effects)?;
     let given = put_begun(alloc, state, begun);
     Ok(StartAnswers { given, noted })
 }
 
 /// Lets the replies to a request wait, and puts the state in that its session then has. It fails
 /// only for want of memory, and then changes nothing.
-pub(crate) fn post_news(memory: &mut Memory, actor: Actor, news: News) -> Result<(), AllocError>
-    ensures taken { (g : Ground) (t : ℕ) (q : Quiet) (m : Move) → Remembers g t memory.old q
-        → Tells m news → OnOk result (Remembers g t memory.new
+pub(crate) fn post_effects(memory: &mut Remembered, actor: Actor, effects: RequestEffects) -> Result<(), AllocError>
+    ensures taken { (g : Ground) (t : ℕ) (q : TenantState) (m : Move) → Remembers g t memory.old q
+        → TellsMove m effects → OnOk result (Remembers g t memory.new
         (with_replies m.replies (with_state actor m.state q))) }
-    ensures stays { (g : Ground) (t : ℕ) (q : Quiet) → Remembers g t memory.old q
+    ensures stays { (g : Ground) (t : ℕ) (q : TenantState) → Remembers g t memory.old q
         → OnErr result (Remembers g t memory.new q) }
     ensures opened { opened_by memory.new ≡ opened_by memory.old }
     ensures cells { memory.new.cells ≡ memory.old.cells }
 {
-    let News { batch, state } = news;
+    let RequestEffects { batch, state } = effects;
     memory.post_with_state(actor, batch, state)
 }
 
@@ -158,7 +158,7 @@ fn begun_answer(begun: &Option<Begun>) -> Result<StartAnswer, AllocError>
 
 // Its next form runs, or the request in hand is done.
 fn put_begun(alloc: Global, state: &mut ActorState, begun: Option<Begun>) -> StartAnswer
-    ensures hand { (h : rules.Hand) → (actor_view state.old).hand ≡ Some h
+    ensures hand { (h : rules.WorkInHand) → (actor_view state.old).hand ≡ Some h
         → actor_view state.new ≡ record (actor_view state.old) { hand = hand_begun h begun } }
     ensures answer { start_answer_view result ≡ answer_given (given_job begun) }
 {
@@ -177,23 +177,23 @@ fn put_begun(alloc: Global, state: &mut ActorState, begun: Option<Begun>) -> Sta
 // The oldest request that waits; where none does, the next action.
 fn start_request(
     alloc: Global,
-    memory: &mut Memory,
+    memory: &mut Remembered,
     retries: u32,
     actor: Actor,
     state: &mut ActorState,
     aside: &mut Aside,
 ) -> Result<StartAnswers, Refusal>
-    ensures acted { (g : Ground) (t : ℕ) (q : Quiet) → IsRight g → retries ≡ g.retries
+    ensures acted { (g : Ground) (t : ℕ) (q : TenantState) → IsRight g → retries ≡ g.retries
         → Remembers g t memory.old q → (actor_view state.old).hand ≡ None
         → IfOk result (λ s. AcceptsOutcome g t actor q
         (start_waiting g actor (actor_view state.old) q (actor_view state.old).waiting)
         memory.new (actor_view state.new) (start_answer_view s.given)) }
-    ensures declined { (g : Ground) (t : ℕ) (q : Quiet) → IsRight g → retries ≡ g.retries
+    ensures declined { (g : Ground) (t : ℕ) (q : TenantState) → IsRight g → retries ≡ g.retries
         → Remembers g t memory.old q → (actor_view state.old).hand ≡ None
         → IfErr result (RefusesOutcome g t q
         (start_waiting g actor (actor_view state.old) q (actor_view state.old).waiting)
         memory.new) }
-    ensures no_memory { (g : Ground) (t : ℕ) (q : Quiet) → Remembers g t memory.old q
+    ensures no_memory { (g : Ground) (t : ℕ) (q : TenantState) → Remembers g t memory.old q
         → result ≡ Err Refusal.NoMemory → is_accepted
         (start_waiting g actor (actor_view state.old) q (actor_view state.old).waiting) ≡ true }
     ensures same { IfOk result AreSameStarts }
@@ -207,7 +207,7 @@ fn start_request(
         return Err(Refusal::Held);
     }
     let session = memory.first_state(alloc, actor)?;
-    let BegunRequest { news, hand, given } = begin_request(
+    let BegunRequest { effects, hand, given } = begin_request(
         alloc,
         retries,
         &memory.spaces,
@@ -216,7 +216,7 @@ fn start_request(
         aside,
     )?;
     let answers = StartAnswers::of(answer_of(given))?;
-    post_news(memory, actor, news)?;
+    post_effects(memory, actor, effects)?;
     leave_request(aside, put_next_in_hand(state, hand));
     Ok(answers)
 }
@@ -228,7 +228,7 @@ fn oldest(state: &ActorState) -> Option<&Waiting>
 }
 
 // The oldest request waits no longer, and is given; and what is in hand is this.
-fn put_next_in_hand(state: &mut ActorState, hand: Option<Hand>) -> Option<Waiting>
+fn put_next_in_hand(state: &mut ActorState, hand: Option<WorkInHand>) -> Option<Waiting>
     ensures { actor_view state.new
         ≡ with_next_in_hand (option_map hand_view hand) (actor_view state.old) }
 {

@@ -4,7 +4,7 @@ ghost use Rattle.repl_asks.specs.Inside.View.{ask_view};
 ghost use Rattle.repl_asks.specs.Inside.Jobs.{finished_view};
 ghost use Rattle.server_rules.specs.Ground.{Ground};
 ghost use Rattle.ref_table.specs.Store.{Store};
-ghost use Rattle.server_rules.specs.Tenant.{ActorData, Quiet};
+ghost use Rattle.server_rules.specs.Tenant.{ActorData, TenantState};
 ghost use Rattle.server_rules.specs.Plan.{starts, ends, with_step_spent};
 ghost use Rattle.ref_table.specs.Standing.{counter_of};
 ghost use Rattle.tenant_world.specs.Answers.{start_answer_view, end_answer_view};
@@ -29,7 +29,7 @@ use tenant_asks::{AskAnswer, AskAnswers, ask};
 use tenant_parts::{ActorState, Aside, Left};
 
 impl Tenant {
-    ghost use Rattle.tenant_world.specs.Standing.{QuietStands, Lends, CountsStep};
+    ghost use Rattle.tenant_world.specs.Standing.{StandsForState, Lends, CountsStep};
     ghost use Rattle.tenant_world.specs.Promises.{DoesBy, Declines, LacksMemory};
     ghost use Rattle.tenant_world.specs.Promises.{DoesAsk, DeclinesAsk, AskLacksMemory};
     ghost use Rattle.tenant_world.specs.Promises.{DoesEnd, DeclinesEnd, EndLacksMemory};
@@ -184,12 +184,12 @@ impl Tenant {
     fn settle(&mut self, actor: Actor, is_interrupted: bool, aside: &mut Aside)
         requires { 0 < self.old.steps }
         ensures steps { self.old.steps ≡ self.new.steps + 1 }
-        ensures stands { (g : Ground) (q after : Quiet) (s : Store) (state : ActorData)
+        ensures stands { (g : Ground) (q after : TenantState) (s : Store) (state : ActorData)
             → Lends g actor state self.old q
             → Remembers g s.tenant self.old.memory after → Reaches self.old.attempts s
             → after.actors ≡ actors_after is_interrupted actor state q.actors
             → after.steps ≡ q.steps → after.heard ≡ q.heard
-            → QuietStands g self.new (with_step_spent after) s }
+            → StandsForState g self.new (with_step_spent after) s }
     {
         leave_actor(aside, leave(&mut self.actors, actor, is_interrupted));
         self.steps -= 1;

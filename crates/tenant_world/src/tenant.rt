@@ -7,7 +7,7 @@ ghost use Rattle.tenant_world.specs.Seats.{are_below};
 
 use bencode_wire::Decoder;
 use std::alloc::Global;
-use tenant_asks::Memory;
+use tenant_asks::Remembered;
 use tenant_parts::{Actors, Attempts};
 
 /// One tenant. Each of its steps is a deed of the rules: it is accepted or refused as they say, and
@@ -19,7 +19,7 @@ pub struct Tenant {
     pub(crate) steps: u32,
     pub(crate) decoder: Decoder,
     pub(crate) actors: Actors,
-    pub(crate) memory: Memory,
+    pub(crate) memory: Remembered,
     pub(crate) attempts: Attempts,
     // The messages of each piece were taken when it was heard.
     ghost taken: { length (ready_of decoder) ≡ 0 },

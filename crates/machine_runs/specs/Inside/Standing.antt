@@ -4,7 +4,7 @@ use Rattle.server_rules.specs.Ground.{Ground}
 use Rattle.server_rules.specs.Machine.World.{TenantData, World}
 use Rattle.server_rules.specs.Grounds.{IsRight}
 use Rattle.server_rules.specs.Inside.Turned.{Left}
-use Rattle.server_rules.specs.LoneTurns.{Lone}
+use Rattle.server_rules.specs.LoneTurns.{LoneTenant}
 use Rattle.repl_core.specs.Grounds.{Evaluates}
 use Rattle.repl_core.specs.Going.{AreWalkedIn}
 use Rattle.repl_core.specs.Left.{left_at}
@@ -15,11 +15,11 @@ use Rattle.machine_runs.specs.declared.runner.Runner.{Runner}
 abbrev pub work_left : Runner → Left
 work_left r = left_at 0 r.machine
 
-abbrev pub tenant_data_of : Lone → TenantData
-tenant_data_of l = record { quiet = l.quiet; mine = l.store.mine }
+abbrev pub tenant_data_of : LoneTenant → TenantData
+tenant_data_of l = record { state = l.state; mine = l.store.mine }
 
 -- it is the first tenant of a server
-pub record RunnerStands (g : Ground) (r : Runner) (l : Lone) : Type 0 where
+pub record RunnerStands (g : Ground) (r : Runner) (l : LoneTenant) : Type 0 where
   pub right : IsRight g
   pub ground : Evaluates g
   pub world : World

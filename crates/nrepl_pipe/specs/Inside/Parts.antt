@@ -4,7 +4,7 @@ use Rattle.std.specs.Prelude.{Option}
 use Rattle.std.specs.Io.KnownBytes.{Consumes, Appends}
 use Rattle.server_rules.specs.Ground.{Ground}
 use Rattle.server_rules.specs.declared.refusal.Refusal.{Refusal}
-use Rattle.server_rules.specs.LoneTurns.{Lone, LoneTurn, LoneStepped, refused, lone_run}
+use Rattle.server_rules.specs.LoneTurns.{LoneTenant, LoneTurn, LoneStepped, refused, lone_run}
 use Rattle.server_rules.specs.LoneTurns.{lone_served}
 use Rattle.server_rules.specs.Inside.Turned.{Accepted}
 use Rattle.nrepl_pipe.specs.Schedule.{Rests, AllRest, AreRounds, MeetsWorn}
@@ -23,7 +23,7 @@ LosesPiece unread left =
     (bytes : List ℕ) × ((bytes ≡ []) ⊎ IsPiece bytes) × Consumes unread left bytes
 
 -- what came of a piece
-abbrev pub HearsSo : HearAnswer → (Lone → Type 0) → LoneStepped → Type 0
+abbrev pub HearsSo : HearAnswer → (LoneTenant → Type 0) → LoneStepped → Type 0
 HearsSo HearAnswer.Done Stands stepped = Accepted Stands stepped
 HearsSo HearAnswer.Worn Stands stepped = stepped ≡ refused Refusal.Worn
 
@@ -42,18 +42,18 @@ with_turn told Turned.Worn = record told { is_worn = true }
 with_turn told Turned.Idle = told
 
 -- what is told of the turns of a round
-pub record IsRound (told : Round) (g : Ground) (l : Lone) (turns : List LoneTurn) : Type 0 where
+pub record IsRound (told : Round) (g : Ground) (l : LoneTenant) (turns : List LoneTurn) : Type 0 where
   pub is_last : (told.is_last ≡ true) ↔ AllRest g l turns
   pub is_worn : (told.is_worn ≡ true) ↔ MeetsWorn g l turns
 
 -- the turns were made, and what they serve was written
-pub record Makes (g : Ground) (Stands : Lone → Type 0) (l : Lone) (turns : List LoneTurn)
+pub record MakesTurns (g : Ground) (Stands : LoneTenant → Type 0) (l : LoneTenant) (turns : List LoneTurn)
     (held holds : Option (List ℕ)) : Type 0 where
   pub appends : Appends held holds (lone_served g l turns)
   pub stands : Stands (lone_run g l turns)
 
 -- what was written begins what the turns serve
-pub record Begins (g : Ground) (l : Lone) (turns : List LoneTurn) (held holds : Option (List ℕ))
+pub record Begins (g : Ground) (l : LoneTenant) (turns : List LoneTurn) (held holds : Option (List ℕ))
     : Type 0 where
   pub written : List ℕ
   pub more : List ℕ
@@ -61,16 +61,16 @@ pub record Begins (g : Ground) (l : Lone) (turns : List LoneTurn) (held holds : 
   pub begins : lone_served g l turns ≡ written ++ more
 
 -- rounds end with a turn that met the end of the steps, or without one
-abbrev pub EndsSo : Rounds → Ground → Lone → List LoneTurn → Type 0
+abbrev pub EndsSo : Rounds → Ground → LoneTenant → List LoneTurn → Type 0
 EndsSo Rounds.Idle g l turns = MeetsWorn g l turns → ⊥
 EndsSo Rounds.Worn g l turns = MeetsWorn g l turns
 
 abbrev pub MakesRounds
-    : Ground → (Lone → Type 0) → Lone → Option (List ℕ) → Option (List ℕ) → Rounds → Type 0
+    : Ground → (LoneTenant → Type 0) → LoneTenant → Option (List ℕ) → Option (List ℕ) → Rounds → Type 0
 MakesRounds g Stands l held holds end =
-    (turns : List LoneTurn) × AreRounds g l turns × Makes g Stands l turns held holds
+    (turns : List LoneTurn) × AreRounds g l turns × MakesTurns g Stands l turns held holds
     × EndsSo end g l turns
 
-abbrev pub BeginsRounds : Ground → Lone → Option (List ℕ) → Option (List ℕ) → Type 0
+abbrev pub BeginsRounds : Ground → LoneTenant → Option (List ℕ) → Option (List ℕ) → Type 0
 BeginsRounds g l held holds =
     (turns : List LoneTurn) × AreRounds g l turns × Begins g l turns held holds

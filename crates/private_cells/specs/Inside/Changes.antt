@@ -10,8 +10,8 @@ abbrev pub with_these : List SentAction → AgentData → AgentData
 with_these xs a = record a { waiting = a.waiting ++ xs }
 
 -- the action that runs is over, and leaves a state or a fault
-abbrev pub with_state : Datum → AgentData → AgentData
-with_state d a = record a { state = d; running = None }
+abbrev pub with_agent_state : Datum → AgentData → AgentData
+with_agent_state d a = record a { state = d; running = None }
 
 abbrev pub with_fault : Failure → AgentData → AgentData
 with_fault f a = record a { fault = Some f; running = None }

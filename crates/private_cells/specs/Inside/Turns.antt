@@ -19,12 +19,12 @@ open_by place None fault xs = turn_by place fault xs
 abbrev pub open_turn : ℕ → AgentData → Option ActionTurn
 open_turn place a = open_by place a.running a.fault a.waiting
 
-abbrev pub open_in : ℕ → Option AgentData → Option ActionTurn
-open_in place None = None
-open_in place (Some a) = open_turn place a
+abbrev pub open_turn_of : ℕ → Option AgentData → Option ActionTurn
+open_turn_of place None = None
+open_turn_of place (Some a) = open_turn place a
 
 abbrev pub open_at : ℕ → List AgentData → Option ActionTurn
-open_at place agents = open_in place (slice_get agents place)
+open_at place agents = open_turn_of place (slice_get agents place)
 
 -- the session from which the first action came
 abbrev pub first_session : List SentAction → Option (Option ℕ)
@@ -47,28 +47,28 @@ open_sum f place [] = 0
 open_sum f place (a ∷ agents) = weight f (open_turn place a) + open_sum f (suc place) agents
 
 -- a turn as the heap has it, which gives its greatest first
-abbrev pub Entry : Type 0
-Entry = Reverse (ℕ × ℕ)
+abbrev pub HeapTurn : Type 0
+HeapTurn = Reverse (ℕ × ℕ)
 
-abbrev pub turn_in : Entry → ActionTurn
+abbrev pub turn_in : HeapTurn → ActionTurn
 turn_in e = record { number = e.0.0; agent = e.0.1 }
 
 -- by the number, and then by the agent, the greatest first
-abbrev pub least_last : Entry → Entry → Ordering
+abbrev pub least_last : HeapTurn → HeapTurn → Ordering
 least_last x y = ordering_then (nat_cmp y.0.0 x.0.0) (nat_cmp y.0.1 x.0.1)
 
-abbrev pub heap_sum : (ActionTurn → ℕ) → List Entry → ℕ
+abbrev pub heap_sum : (ActionTurn → ℕ) → List HeapTurn → ℕ
 heap_sum f es = sum_by (λ e. f (turn_in e)) es
 
 -- no entry comes before this one
-abbrev pub IsFirst : ℕ × ℕ → List Entry → Type 0
+abbrev pub IsFirst : ℕ × ℕ → List HeapTurn → Type 0
 IsFirst t es =
     AllByRecursion (λ e. is_lt (ordering_then (nat_cmp e.0.0 t.0) (nat_cmp e.0.1 t.1)) ≡ false) es
 
 -- f of a turn that stands in the heap is part of what it gives for all
-abbrev pub IsThere : ℕ × ℕ → List Entry → Type 0
+abbrev pub IsThere : ℕ × ℕ → List HeapTurn → Type 0
 IsThere t es = (f : ActionTurn → ℕ) → f (turn_at t.1 t.0) ≤ heap_sum f es
 
 -- The heap has the turns that there are, and no others: each sum over them is the same.
-abbrev pub HasTurns : List Entry → List AgentData → Type 0
+abbrev pub HasTurns : List HeapTurn → List AgentData → Type 0
 HasTurns es agents = (f : ActionTurn → ℕ) → heap_sum f es ≡ open_sum f 0 agents

@@ -6,8 +6,8 @@ use Rattle.repl_core.specs.Inside.WalkAt.{walk_at}
 use Rattle.repl_core.specs.declared.walks.Walks.{Walks}
 
 -- the evaluation of the actor's form is kept before a turn, or behind it
-abbrev pub is_kept : Walks → Walks → Actor → Bool
-is_kept old new a = is_some (walk_at old a) || is_some (walk_at new a)
+abbrev pub keeps_walk : Walks → Walks → Actor → Bool
+keeps_walk old new a = is_some (walk_at old a) || is_some (walk_at new a)
 
 -- Whether the deed is refused. What a form does is not known where its evaluation was not kept and
 -- could not be made.

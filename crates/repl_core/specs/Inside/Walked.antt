@@ -7,7 +7,7 @@ use Rattle.repl_walker.specs.Waits.{progress_tree}
 use Rattle.repl_walker.specs.declared.ending.Ending.{Ending}
 use Rattle.repl_walker.specs.declared.waiting.Progress.{Progress}
 use Rattle.server_rules.specs.Request.{Run}
-use Rattle.server_rules.specs.Tenant.{Quiet}
+use Rattle.server_rules.specs.Tenant.{TenantState}
 use Rattle.server_rules.specs.declared.actor.Actor.{Actor}
 use Rattle.evaluation_rules.specs.Evaluation.{evaluation}
 use Rattle.tenant_world.specs.Running.{running_in}
@@ -17,10 +17,10 @@ abbrev pub IsWalkOf : Run → Progress → Type 0
 IsWalkOf run p = progress_tree p ≡ tree_after (evaluation run.job) run.trace
 
 -- each that is kept of a form that runs is that form's
-abbrev pub AreWalked : (Actor → Option Progress) → Quiet → Type 0
+abbrev pub AreWalked : (Actor → Option Progress) → TenantState → Type 0
 AreWalked walk q = (a : Actor) (run : Run) (p : Progress) → running_in a q ≡ Some run
     → walk a ≡ Some p → IsWalkOf run p
 
 -- the ending of a form that runs, where its evaluation ended so
-abbrev pub ending_of : Run → Ending → EndingData
-ending_of run e = record { job = run.job; trace = run.trace; end = finished_view e.finished }
+abbrev pub walk_ended : Run → Ending → EndingData
+walk_ended run e = record { job = run.job; trace = run.trace; end = finished_view e.finished }

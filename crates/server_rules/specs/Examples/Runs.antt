@@ -86,7 +86,7 @@ begun_replies t =
 -- What is left of a tenant
 
 abbrev pub steps_left : Option (Option TenantData) → Option ℕ
-steps_left (Some (Some t)) = Some t.quiet.steps
+steps_left (Some (Some t)) = Some t.state.steps
 steps_left _ = None
 
 abbrev pub steps_of : ℕ → World → Option ℕ

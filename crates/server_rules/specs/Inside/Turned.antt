@@ -1,7 +1,7 @@
 -- What a turn of the code comes to, beside the step.
 use Rattle.std.specs.Prelude.{◌≡◌, ℕ, List}
 use Rattle.server_rules.specs.declared.refusal.Refusal.{Refusal}
-use Rattle.server_rules.specs.LoneTurns.{Lone, LoneStepped, accepted, refused}
+use Rattle.server_rules.specs.LoneTurns.{LoneTenant, LoneStepped, accepted, refused}
 
 -- how much is left to do, by which a loop over a tenant ends
 pub record Left : Type 0 where
@@ -11,10 +11,10 @@ pub record Left : Type 0 where
   pub outbox : List (List ℕ)
 
 -- the step is accepted, and what is told of the tenant holds after it
-abbrev pub Accepted : (Lone → Type 0) → LoneStepped → Type 0
+abbrev pub Accepted : (LoneTenant → Type 0) → LoneStepped → Type 0
 Accepted Stands (accepted new bytes) = Stands new
 Accepted Stands (refused why) = ⊥
 
 -- the step is refused so
-abbrev pub IsRefused : Refusal → LoneStepped → Type 0
-IsRefused why stepped = stepped ≡ refused why
+abbrev pub IsRefusedTurn : Refusal → LoneStepped → Type 0
+IsRefusedTurn why stepped = stepped ≡ refused why

@@ -5,7 +5,7 @@ use Rattle.value_data.specs.Datum.{Datum}
 use Rattle.ref_table.specs.Numbered.{Entry, entry, part_under}
 use Rattle.ref_history.specs.Versioned.{RefOf, Version, Ref}
 use Rattle.ref_table.specs.Store.{Own}
-use Rattle.server_rules.specs.Tenant.{Quiet}
+use Rattle.server_rules.specs.Tenant.{TenantState}
 use Rattle.server_rules.specs.Machine.World.{TenantData, World}
 
 -- the values that a ref ever had, without their stamps
@@ -47,11 +47,11 @@ seen_of o = record {
 }
 
 pub record View : Type 0 where
-  pub quiet : Quiet
+  pub state : TenantState
   pub mine : Seen
 
 abbrev pub tenant_view : TenantData → View
-tenant_view tenant = record { quiet = tenant.quiet; mine = seen_of tenant.mine }
+tenant_view tenant = record { state = tenant.state; mine = seen_of tenant.mine }
 
 abbrev pub part_view : Option TenantData → Option View
 part_view = option_map tenant_view

@@ -2,8 +2,8 @@
 use Rattle.std.specs.Prelude.{List, [], ◌∷◌, Bool, true, false, not, ◌||◌, is_some}
 use Rattle.std.specs.Prelude.{Option, None, Some, option_map, find}
 use Rattle.ref_table.specs.Numbered.{Entry}
-use Rattle.server_rules.specs.Request.{Waiting, Hand}
-use Rattle.server_rules.specs.Tenant.{ActorData, actor_at, Quiet}
+use Rattle.server_rules.specs.Request.{Waiting, WorkInHand}
+use Rattle.server_rules.specs.Tenant.{ActorData, actor_at, TenantState}
 use Rattle.server_rules.specs.declared.actor.Actor.{Actor}
 
 abbrev pub has_waiting : List Waiting → Bool
@@ -14,7 +14,7 @@ has_waiting (w ∷ ws) = true
 abbrev pub is_busy : ActorData → Bool
 is_busy actor = is_some actor.hand || has_waiting actor.waiting
 
-abbrev pub may_begin : List Waiting → Option Hand → Bool
+abbrev pub may_begin : List Waiting → Option WorkInHand → Bool
 may_begin waiting None = has_waiting waiting
 may_begin waiting (Some h) = not (is_some h.running)
 
@@ -22,5 +22,5 @@ abbrev pub has_work : Entry ActorData → Bool
 has_work e = may_begin e.part.waiting e.part.hand
 
 -- the first actor that has a form or a request to begin
-abbrev pub ready : Quiet → Option Actor
+abbrev pub ready : TenantState → Option Actor
 ready q = option_map (λ e. actor_at e.number) (find has_work q.actors)

@@ -3,7 +3,7 @@ use Rattle.std.specs.Prelude.{ℕ, ◌==◌, List, [], ◌∷◌, ◌++◌, Opti
 use Rattle.std.specs.Prelude.{if◌then◌else◌}
 use Rattle.ref_table.specs.Numbered.{part_under}
 use Rattle.server_rules.specs.Ground.{Ground}
-use Rattle.server_rules.specs.Tenant.{Quiet}
+use Rattle.server_rules.specs.Tenant.{TenantState}
 use Rattle.server_rules.specs.Plan.{bytes_in}
 use Rattle.server_rules.specs.Honest.{honest_deed}
 use Rattle.server_rules.specs.Machine.World.{TenantData, World, Step, opens, does, closes, Stepped}
@@ -24,14 +24,14 @@ abbrev pub whose : Turn → ℕ
 whose (given s) = whose_step s
 whose (goes t a) = t
 
-abbrev pub quiet_of : Option TenantData → Option Quiet
-quiet_of = option_map (λ tenant. tenant.quiet)
+abbrev pub tenant_state_of : Option TenantData → Option TenantState
+tenant_state_of = option_map (λ tenant. tenant.state)
 
 -- Runs of turns
 
 abbrev pub step_of : Ground → World → Turn → Step
 step_of g w (given s) = s
-step_of g w (goes t a) = does t (honest_deed g a (option_map quiet_of (part_under t w.tenants)))
+step_of g w (goes t a) = does t (honest_deed g a (option_map tenant_state_of (part_under t w.tenants)))
 
 abbrev pub turn_step : Ground → World → Turn → Stepped
 turn_step g w turn = step g w (step_of g w turn)

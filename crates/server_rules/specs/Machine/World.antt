@@ -7,14 +7,14 @@ use Rattle.ref_table.specs.Store.{Around, Own, Store}
 use Rattle.ref_table.specs.Performed.{Performed}
 use Rattle.ref_table.specs.Calls.{performed}
 use Rattle.server_rules.specs.Ground.{Ground}
-use Rattle.server_rules.specs.Tenant.{Quiet, opened_quiet}
+use Rattle.server_rules.specs.Tenant.{TenantState, opened_state}
 use Rattle.server_rules.specs.Plan.{Deed, StepAnswer, tenant_opened, tenant_gone, Outcome, refuses}
 use Rattle.server_rules.specs.Plan.{leaves, Plan}
 use Rattle.server_rules.specs.Deeds.{plan}
 use Rattle.server_rules.specs.declared.refusal.Refusal.{Refusal}
 
 pub record TenantData : Type 0 where
-  pub quiet : Quiet
+  pub state : TenantState
   pub mine : Own
 
 pub record World : Type 0 where
@@ -44,7 +44,7 @@ abbrev pub opened_world : Ground → World
 opened_world g = new_world g.shared.refs
 
 abbrev pub opened_tenant : Ground → TenantData
-opened_tenant g = record { quiet = opened_quiet g; mine = record { refs = []; points = [] } }
+opened_tenant g = record { state = opened_state g; mine = record { refs = []; points = [] } }
 
 -- Opening: with a number above all before it, where a place is free
 
@@ -74,7 +74,7 @@ with_tenant t part around w = record { around = around; tenants = with_part t pa
 abbrev pub ended_as : World → ℕ → Store → Outcome → Stepped
 ended_as w t s (refuses why) = refused why
 ended_as w t s (leaves q answer) =
-    accepted (with_tenant t (Some (record { quiet = q; mine = s.mine })) s.around w) answer
+    accepted (with_tenant t (Some (record { state = q; mine = s.mine })) s.around w) answer
 
 abbrev pub done_by : World → ℕ → Plan → Performed Store → Stepped
 done_by w t p called = ended_as w t called.store (p.next called.told)
@@ -86,7 +86,7 @@ planned_step w t tenant p =
 abbrev pub deed_step : Ground → World → ℕ → Deed → Option (Option TenantData) → Stepped
 deed_step g w t d None = refused Refusal.NoSuchTenant
 deed_step g w t d (Some None) = refused Refusal.NoSuchTenant
-deed_step g w t d (Some (Some tenant)) = planned_step w t tenant (plan g t tenant.quiet d)
+deed_step g w t d (Some (Some tenant)) = planned_step w t tenant (plan g t tenant.state d)
 
 -- Going: the shared refs stay as they are
 

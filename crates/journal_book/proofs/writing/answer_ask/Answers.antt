@@ -3,7 +3,7 @@ use Rattle.server_rules.specs.Machine.World.{does}
 use Rattle.server_rules.specs.Plan.{asks_for}
 use Rattle.repl_asks.specs.Inside.View.{ask_view}
 use Rattle.tenant_asks.specs.Answers.{ask_answer_view}
-use Rattle.journal_book.specs.Standing.{entry}
+use Rattle.journal_book.specs.Standing.{entry_of}
 use Rattle.journal_book.specs.View.{entries}
 use Rattle.journal_book.proofs.Written.{keeps-written, is-written, keeps-unwritten, is-refused, keeps-same}
 use Rattle.journal_book.proofs.writing.answer_ask.Goals as goal
@@ -24,7 +24,7 @@ returns-in-Ok-answer_ask-clause-keeps c = λ config keeps.
     c.put.new.self.items c.answered.result (does c.args.tenant (asks_for c.args.actor (ask_view c.args.ask.now))) (ask_answer_view c.in-Ok-answer_ask.answers.given) keeps
     (c.put.ensures ∙ ap (λ es. es ++ c.answered.result ∷ []) c.make_room.ensures.items)
     (c.answered.ensures (ask_view c.args.ask.now) (entries c.args.journal.now.items) c.in-Ok-of.ensures
-    ∙ ap (entry (does c.args.tenant (asks_for c.args.actor (ask_view c.args.ask.now))))
+    ∙ ap (entry_of (does c.args.tenant (asks_for c.args.actor (ask_view c.args.ask.now))))
     c.in-Ok-answer_ask.ensures.same)
     (λ g conf k. c.in-Ok-answer_ask.ensures.done g k.world conf.right k.stands)
 
@@ -34,7 +34,7 @@ returns-in-Ok-answer_ask-clause-written c = λ config keeps.
     c.put.new.self.items c.answered.result (does c.args.tenant (asks_for c.args.actor (ask_view c.args.ask.now))) (ask_answer_view c.in-Ok-answer_ask.answers.given) keeps
     (c.put.ensures ∙ ap (λ es. es ++ c.answered.result ∷ []) c.make_room.ensures.items)
     (c.answered.ensures (ask_view c.args.ask.now) (entries c.args.journal.now.items) c.in-Ok-of.ensures
-    ∙ ap (entry (does c.args.tenant (asks_for c.args.actor (ask_view c.args.ask.now))))
+    ∙ ap (entry_of (does c.args.tenant (asks_for c.args.actor (ask_view c.args.ask.now))))
     c.in-Ok-answer_ask.ensures.same)
     (λ g conf k. c.in-Ok-answer_ask.ensures.done g k.world conf.right k.stands)
 

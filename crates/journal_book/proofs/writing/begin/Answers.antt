@@ -2,7 +2,7 @@ use Rattle.std.proofs.Common.{[], ◌∷◌, ◌∙◌, ◌++◌, ap}
 use Rattle.server_rules.specs.Machine.World.{does}
 use Rattle.server_rules.specs.Plan.{starts}
 use Rattle.tenant_world.specs.Answers.{start_answer_view}
-use Rattle.journal_book.specs.Standing.{entry}
+use Rattle.journal_book.specs.Standing.{entry_of}
 use Rattle.journal_book.specs.View.{entries}
 use Rattle.journal_book.proofs.Written.{keeps-written, is-written, keeps-unwritten, is-refused, keeps-same}
 use Rattle.journal_book.proofs.writing.begin.Goals as goal
@@ -23,7 +23,7 @@ returns-in-Ok-start-clause-keeps c = λ config keeps.
     c.put.new.self.items c.start_entry.result (does c.args.tenant (starts c.args.actor)) (start_answer_view c.in-Ok-start.answers.given) keeps
     (c.put.ensures ∙ ap (λ es. es ++ c.start_entry.result ∷ []) c.make_room.ensures.items)
     (c.start_entry.ensures (entries c.args.journal.now.items)
-    ∙ ap (entry (does c.args.tenant (starts c.args.actor))) c.in-Ok-start.ensures.same)
+    ∙ ap (entry_of (does c.args.tenant (starts c.args.actor))) c.in-Ok-start.ensures.same)
     (λ g conf k. c.in-Ok-start.ensures.done g k.world conf.right k.stands)
 
 pub returns-in-Ok-start-clause-written : goal.returns-in-Ok-start-clause-written
@@ -32,7 +32,7 @@ returns-in-Ok-start-clause-written c = λ config keeps.
     c.put.new.self.items c.start_entry.result (does c.args.tenant (starts c.args.actor)) (start_answer_view c.in-Ok-start.answers.given) keeps
     (c.put.ensures ∙ ap (λ es. es ++ c.start_entry.result ∷ []) c.make_room.ensures.items)
     (c.start_entry.ensures (entries c.args.journal.now.items)
-    ∙ ap (entry (does c.args.tenant (starts c.args.actor))) c.in-Ok-start.ensures.same)
+    ∙ ap (entry_of (does c.args.tenant (starts c.args.actor))) c.in-Ok-start.ensures.same)
     (λ g conf k. c.in-Ok-start.ensures.done g k.world conf.right k.stands)
 
 pub returns-in-Err-clause-keeps : goal.returns-in-Err-clause-keeps

@@ -1,7 +1,7 @@
 use Rattle.std.proofs.Common.{[], ◌∷◌, ◌∙◌, ◌++◌, ap}
 use Rattle.server_rules.specs.Machine.World.{does}
 use Rattle.server_rules.specs.Plan.{hears, messages_heard}
-use Rattle.journal_book.specs.Standing.{entry}
+use Rattle.journal_book.specs.Standing.{entry_of}
 use Rattle.journal_book.specs.View.{entries}
 use Rattle.journal_book.proofs.Written.{keeps-written, is-written, keeps-unwritten, is-refused, keeps-same}
 use Rattle.journal_book.proofs.writing.hear.Goals as goal
@@ -22,7 +22,7 @@ returns-in-Ok-hear-clause-keeps c = λ config keeps.
     c.put.new.self.items c.heard_entry.result (does c.args.tenant (hears c.args.piece.now)) (messages_heard c.in-Ok-hear.messages) keeps
     (c.put.ensures ∙ ap (λ es. es ++ c.heard_entry.result ∷ []) c.make_room.ensures.items)
     (c.heard_entry.ensures (entries c.args.journal.now.items)
-    ∙ ap (λ p. entry (does c.args.tenant (hears p)) (messages_heard c.in-Ok-hear.messages))
+    ∙ ap (λ p. entry_of (does c.args.tenant (hears p)) (messages_heard c.in-Ok-hear.messages))
     c.in-Ok-piece_to_note.ensures)
     (λ g conf k. c.in-Ok-hear.ensures.done g k.world conf.right k.stands)
 
@@ -32,7 +32,7 @@ returns-in-Ok-hear-clause-written c = λ config keeps.
     c.put.new.self.items c.heard_entry.result (does c.args.tenant (hears c.args.piece.now)) (messages_heard c.in-Ok-hear.messages) keeps
     (c.put.ensures ∙ ap (λ es. es ++ c.heard_entry.result ∷ []) c.make_room.ensures.items)
     (c.heard_entry.ensures (entries c.args.journal.now.items)
-    ∙ ap (λ p. entry (does c.args.tenant (hears p)) (messages_heard c.in-Ok-hear.messages))
+    ∙ ap (λ p. entry_of (does c.args.tenant (hears p)) (messages_heard c.in-Ok-hear.messages))
     c.in-Ok-piece_to_note.ensures)
     (λ g conf k. c.in-Ok-hear.ensures.done g k.world conf.right k.stands)
 

@@ -1,7 +1,7 @@
 use Rattle.std.proofs.Common.{◌≡◌, length, false}
 use Rattle.server_rules.specs.Ground.{Ground}
-use Rattle.server_rules.specs.LoneTurns.{Lone}
-use Rattle.nrepl_pipe.specs.Failing.{Marks}
+use Rattle.server_rules.specs.LoneTurns.{LoneTenant}
+use Rattle.nrepl_pipe.specs.Failing.{MarksFailure}
 use Rattle.nrepl_pipe.specs.Reads.{IsPassedOn}
 use Rattle.nrepl_pipe.proofs.Draining.{Drains}
 use Rattle.nrepl_pipe.proofs.replies.write_replies.Given as goal
@@ -9,12 +9,12 @@ use Rattle.nrepl_pipe.proofs.replies.write_replies.Given as goal
 abbrev pub invariant-loop-reply : goal.invariant-loop-reply
 invariant-loop-reply g l = record {
   steps : (g.C.Core.left l.core).steps ≡ (g.C.Core.left l.initial.core).steps;
-  drains : (h : Ground) (q : Lone) → g.C.Core.stands h l.initial.core q
+  drains : (h : Ground) (q : LoneTenant) → g.C.Core.stands h l.initial.core q
       → Drains h (g.C.Core.stands h l.core) q
       (g.W.Sink.contents l.initial.writer) (g.W.Sink.contents l.writer);
   passed : IsPassedOn (g.W.Sink.contents l.initial.writer) (g.W.Sink.passed l.initial.writer)
       → IsPassedOn (g.W.Sink.contents l.writer) (g.W.Sink.passed l.writer);
-  writes : Marks (g.W.Sink.failed l.initial.writer) (g.W.Sink.failed l.writer) false;
+  writes : MarksFailure (g.W.Sink.failed l.initial.writer) (g.W.Sink.failed l.writer) false;
 }
 
 abbrev pub decreases-loop-reply : goal.decreases-loop-reply

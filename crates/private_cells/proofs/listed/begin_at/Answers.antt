@@ -2,7 +2,7 @@ use Rattle.std.proofs.Common.{◌≡◌, ◌<◌, length, sym, ap, ◌∙◌, ar
 use Rattle.private_cells.specs.Agents.{with_begun}
 use Rattle.private_cells.specs.Inside.Seen.{cell_view}
 use Rattle.private_cells.specs.Inside.Kept.{waiting_in}
-use Rattle.private_cells.specs.Inside.Turns.{turn_at, open_in, open_turn, weight, first_session}
+use Rattle.private_cells.specs.Inside.Turns.{turn_at, open_turn_of, open_turn, weight, first_session}
 use Rattle.private_cells.proofs.Changing.{map_set_by}
 use Rattle.private_cells.proofs.Turning.{seen_at, set_sum, begun_closes}
 use Rattle.private_cells.proofs.listed.begin_at.Goals as goal
@@ -28,7 +28,7 @@ returns-clause-closed c = λ f.
     let there : number < length c.args.cells.now.items = omega (arith, c.in-Some.ensures.item) in
     let seen = seen_at cell_view number cell c.args.cells.now.items there
     c.in-Some.ensures.value in
-    let open_then = sym (ap (open_in number) seen) ∙ c.requires in
+    let open_then = sym (ap (open_turn_of number) seen) ∙ c.requires in
     let open_now = ap (open_turn number) c.begin.ensures.begun
     ∙ begun_closes number (turn_at number c.args.first) (cell_view cell) open_then in
     let before : weight f (open_turn number (cell_view cell)) ≡ f (turn_at number c.args.first)

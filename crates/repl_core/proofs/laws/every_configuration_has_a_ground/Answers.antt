@@ -5,7 +5,7 @@ use Rattle.server_rules.specs.Readings.{Readings, AreRight}
 use Rattle.server_rules.specs.Comparisons.{Comparisons, AreExact}
 use Rattle.server_rules.specs.Ground.{Ground}
 use Rattle.server_rules.specs.Shared.{SharedData, shared_by_text}
-use Rattle.repl_core.specs.Configured.{IsConfigured, text_of}
+use Rattle.repl_core.specs.Configured.{IsConfigured, shared_text}
 use Rattle.repl_core.specs.Starting.{HasFault}
 use Rattle.repl_core.specs.declared.machine.Config.{Config}
 use Rattle.repl_core.specs.declared.machine.TheConstants.{PLACES}
@@ -24,7 +24,7 @@ ground config readings comparisons shared = record {
 }
 
 starts : (config : Config) (r : Readings) (c : Comparisons) → AreRight r → AreExact c
-    → (made : Result SharedData Failure) → shared_by_text r evaluation (text_of config.shared) ≡ made
+    → (made : Result SharedData Failure) → shared_by_text r evaluation (shared_text config.shared) ≡ made
     → ((g : Ground) × IsConfigured g config) ⊎ HasFault config
 starts config r c right exact (Ok shared) is = inl (
   ground config r c shared,

@@ -1,8 +1,8 @@
 use Rattle.std.proofs.Common.{ap, subst, sym, ◌∙◌, option_map}
 use Rattle.repl_asks.specs.Inside.View.{ask_view, answer_view}
 use Rattle.repl_asks.specs.declared.exchange.Exchange.{Exchange}
-use Rattle.server_rules.specs.Asking.{quiet_after, sender_of}
-use Rattle.server_rules.specs.Request.{Hand}
+use Rattle.server_rules.specs.Asking.{state_after, sender_of}
+use Rattle.server_rules.specs.Request.{WorkInHand}
 use Rattle.server_rules.specs.Tenant.{ActorData}
 use Rattle.server_rules.specs.Plan.{Outcome, ask_answered}
 use Rattle.server_rules.specs.declared.refusal.Refusal.{Refusal}
@@ -56,7 +56,7 @@ returns-clause-acted c = λ g q s r h run remembers holds allowed hand running.
     let new = actor_view c.keep.new.state in
     let answers = rw c.in-Some-told.is at
     (c.in-Ok-perform_ask.ensures.answered g q s r remembers holds allowed) in
-    let same = rw c.in-Some-told.is at c.in-Ok-perform_ask.ensures.thrice in
+    let same = rw c.in-Some-told.is at c.in-Ok-perform_ask.ensures.copies in
     let put = c.keep.ensures
     ∙ ap (λ (e : Exchange). with_exchange (exchange_from (ask_view e.ask) kept)
     (actor_view c.exchange_with_room.new.state)) c.deref_mut.ensures.value
@@ -65,7 +65,7 @@ returns-clause-acted c = λ g q s r h run remembers holds allowed hand running.
     ∙ ap (with_exchange (exchange_from ask kept)) c.exchange_with_room.ensures.same in
     let held = held-so (hand_view c.in-Some.hand) h (ap (option_map hand_view) (sym c.in-Some.is)
     ∙ ap (λ (x : ActorData). x.hand) c.exchange_with_room.ensures.same ∙ hand) in
-    let R : Hand → Type 0 = λ x. Remembers g s.tenant memory (quiet_after (sender_of a x) ask kept q) in
+    let R : WorkInHand → Type 0 = λ x. Remembers g s.tenant memory (state_after (sender_of a x) ask kept q) in
     let P : Outcome → Type 0 = λ x. AcceptsOutcome g s.tenant a q x memory new (ask_answered given) in (
       subst P (ask_outcome-told g s a actor h run ask q answers.told answers.is_told)
           (acted-ask_outcome g s.tenant memory a actor new h run ask q answers.told kept given hand running

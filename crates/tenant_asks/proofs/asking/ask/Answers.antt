@@ -12,7 +12,7 @@ use Rattle.tenant_parts.specs.Serving.{ServesWithAttempts}
 use Rattle.tenant_asks.proofs.Remembering.{acted-interrupted, wanted-memory}
 use Rattle.tenant_asks.proofs.Answering.{allowed-so, asked-open, asked-closed, given-told, given-declined}
 use Rattle.tenant_asks.proofs.Answering.{asked-waiting, waits-so}
-use Rattle.server_rules.specs.Asking.{session_of}
+use Rattle.server_rules.specs.Asking.{session_number}
 use Rattle.tenant_asks.proofs.asking.ask.Goals as goal
 
 pub returns-in_err-give_up-clause-declined : goal.returns-in_err-give_up-clause-declined
@@ -69,7 +69,7 @@ returns-clause-acted c = λ g q s r remembers holds.
     let run = run_view c.in-Some-running._run in
     let allowed = allowed-so ask remembers.cells c.is_allowed.ensures c.if-not-is_allowed.false in
     let may = sym c.may_ask.ensures ∙ c.if-not-may_ask.false in
-    let met = waits-so (session_of a) ask remembers.cells c.must_wait.ensures c.if-must_wait.false in
+    let met = waits-so (session_number a) ask remembers.cells c.must_wait.ensures c.if-must_wait.false in
     let hand = ap (option_map hand_view) c.in-Some.is in
     let running = ap (option_map run_view) c.in-Some-running.is in
     let P : Plan → Type 0 = λ p. IfOk c.answer.result (λ x.
@@ -89,7 +89,7 @@ returns-clause-declined c = λ g q s r remembers holds.
     let run = run_view c.in-Some-running._run in
     let allowed = allowed-so ask remembers.cells c.is_allowed.ensures c.if-not-is_allowed.false in
     let may = sym c.may_ask.ensures ∙ c.if-not-may_ask.false in
-    let met = waits-so (session_of a) ask remembers.cells c.must_wait.ensures c.if-must_wait.false in
+    let met = waits-so (session_number a) ask remembers.cells c.must_wait.ensures c.if-must_wait.false in
     let P : Plan → Type 0 = λ p. IfErr c.answer.result (λ why.
     RefusesOutcome g s.tenant q (carried_out s p).outcome c.answer.new.memory why
     × ServesWithAttempts c.answer.new.refs c.answer.new.attempts s r) in
@@ -123,7 +123,7 @@ returns-clause-no_memory c = λ g q s r remembers holds none.
     let run = run_view c.in-Some-running._run in
     let allowed = allowed-so ask remembers.cells c.is_allowed.ensures c.if-not-is_allowed.false in
     let may = sym c.may_ask.ensures ∙ c.if-not-may_ask.false in
-    let met = waits-so (session_of a) ask remembers.cells c.must_wait.ensures c.if-must_wait.false in
+    let met = waits-so (session_number a) ask remembers.cells c.must_wait.ensures c.if-must_wait.false in
     let plan = asked-open g a actor ask q k run (ap (option_map hand_view) c.in-Some.is)
     (ap (option_map run_view) c.in-Some-running.is) may allowed c.if-state.false met in
     sym (ap (λ p. is_accepted (carried_out s p).outcome) plan)
@@ -138,7 +138,7 @@ returns-then-must_wait-clause-declined c = λ g q s r remembers holds.
     let run = run_view c.in-Some-running._run in
     let allowed = allowed-so ask remembers.cells c.is_allowed.ensures c.if-not-is_allowed.false in
     let may = sym c.may_ask.ensures ∙ c.if-not-may_ask.false in
-    let waits = waits-so (session_of a) ask remembers.cells c.must_wait.ensures c.if-must_wait.true in (
+    let waits = waits-so (session_number a) ask remembers.cells c.must_wait.ensures c.if-must_wait.true in (
       record {
         refused = λ ne. asked-waiting g s a actor ask q k run (ap (option_map hand_view) c.in-Some.is)
             (ap (option_map run_view) c.in-Some-running.is) may allowed c.if-state.false waits

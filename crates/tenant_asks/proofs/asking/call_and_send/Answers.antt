@@ -1,7 +1,7 @@
 use Rattle.std.proofs.Common.{ap, ◌∙◌, map}
 use Rattle.repl_asks.specs.Inside.View.{ask_view}
 use Rattle.server_rules.specs.Cells.{with_agents}
-use Rattle.tenant_parts.specs.Thrice.{told_answer}
+use Rattle.tenant_parts.specs.AnswerCopies.{told_answer}
 use Rattle.tenant_asks.specs.Cells.{cells_data}
 use Rattle.tenant_asks.specs.Sends.{all_sent_if, committed_sends, is_told_yes, outgoing_from}
 use Rattle.tenant_asks.specs.Sends.{outgoing_view, sender_view}

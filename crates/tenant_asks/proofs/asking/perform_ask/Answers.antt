@@ -6,7 +6,7 @@ use Rattle.server_rules.specs.Cells.{SenderData, cells_after, with_sends_if}
 use Rattle.server_rules.specs.Tenant.{seat_of}
 use Rattle.ref_table.proofs.Telling.{on_err}
 use Rattle.tenant_parts.specs.View.{hand_view}
-use Rattle.tenant_parts.specs.Thrice.{thrice_view, told_answer}
+use Rattle.tenant_parts.specs.AnswerCopies.{copies_view, told_answer}
 use Rattle.tenant_asks.specs.Cells.{cells_data}
 use Rattle.tenant_asks.specs.Memories.{Remembers}
 use Rattle.tenant_asks.specs.Sends.{committed_sends, is_told_yes, sender_view}
@@ -25,7 +25,7 @@ returns-then-is_of_names-clause-answered c = λ g q s r remembers holds allowed.
     let names = names-nothing (seat_of c.args.actor) (ask_view c.args.ask.now)
     (sym c.is_of_names.ensures ∙ c.if-is_of_names.true) in
     alone-answered g s.tenant c.args.actor sender q (ask_view c.args.ask.now) s r c.name.new.memory
-    c.args.refs.now c.args.attempts.now (thrice_view c.in_ok-name.field-0) holds
+    c.args.refs.now c.args.attempts.now (copies_view c.in_ok-name.field-0) holds
     (ap (performed s) names) named.0 named.1
 
 pub returns-then-not-is_told-clause-answered : goal.returns-then-not-is_told-clause-answered
@@ -40,7 +40,7 @@ returns-then-is_of_cells-clause-answered c = λ g q s r remembers holds allowed.
     let a = c.args.actor in
     let ask = ask_view c.args.ask.now in
     let sender = sender_of a (hand_view c.args.hand.now) in
-    let answer = thrice_view c.in_ok-ask.field-0 in
+    let answer = copies_view c.in_ok-ask.field-0 in
     let of_cells = sym c.is_of_cells.ensures ∙ c.if-is_of_cells.true in
     alone-answered g s.tenant a sender q ask s r _ c.args.refs.now c.args.attempts.now answer holds
     (cells-told (seat_of a) ask s of_cells (sym (c.is_told.ensures s r holds) ∙ c.if-not-is_told.false))

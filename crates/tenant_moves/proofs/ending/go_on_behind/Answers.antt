@@ -10,5 +10,5 @@ returns-then-is_last c =
     let h = record (hand_view c.args.hand.now) {
       namespace = (finished_view c.args.finished.now).namespace;
     } in
-    ends-over h (hand_view c.args.hand.now) (told_state c.args.news.now) c.args.news.now c.end_request.new.self
+    ends-over h (hand_view c.args.hand.now) (told_state c.args.effects.now) c.args.effects.now c.end_request.new.self
     (sym c.is_last.ensures ∙ c.if-is_last.true) c.in_ok-end_request.ensures

@@ -6,7 +6,7 @@ use Rattle.bencode_wire.specs.Inside.Course.{ready_view}
 use Rattle.bencode_wire.specs.Inside.Decoder.{ready_of, fault_of}
 use Rattle.bencode_wire.specs.declared.fault.WireFault.{WireFault}
 use Rattle.server_rules.specs.Readings.{message_limit}
-use Rattle.server_rules.specs.Tenant.{Quiet}
+use Rattle.server_rules.specs.Tenant.{TenantState}
 use Rattle.tenant_moves.specs.Holds.{PartsStandFor}
 use Rattle.tenant_moves.proofs.Hearings.{heard-all, none-ready-back}
 use Rattle.tenant_moves.proofs.hearing.hear.Goals as goal
@@ -25,7 +25,7 @@ returns-in-Ok-clause-heard c = λ g t q right reads held.
     let broken = c.in_ok-is_broken.ensures.broken ∙ ap (λ (o : Option WireFault). is_some o) (sym fault) in
     let long : length messages ≡ length c.take_ready-messages.result.items = length-map c.take_ready-messages.result.items tree_view in
     let count : c.len-count.result ≡ length messages = grind (arith, common_steps, c.len-count.ensures, long) in
-    let start : Quiet = record q { heard = all } in
+    let start : TenantState = record q { heard = all } in
     let first : PartsStandFor g t start c.args.sessions.now _ _ = record { sessions = held.sessions; actors = held.actors; replies = held.replies } in
     heard-all g t q piece messages c.in_ok-is_broken.is_broken c.len-count.result c.settle.new.self _ _ _ right taken none broken count
     (c.in-Ok.ensures.taken g t start first)

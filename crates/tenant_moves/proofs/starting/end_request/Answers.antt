@@ -10,12 +10,12 @@ pub returns : goal.returns
 returns c =
     let h = hand_view c.args.hand.now in
     let s = state_view c.args.state in
-    let news = c.new-news.result in
-    let told = subst (λ x. Adds (closing_move h.origin h.manner h.fault x) news c.end_request.new.self)
-    c.new-news.ensures.state c.in_ok-end_request.ensures in
+    let effects = c.new-effects.result in
+    let told = subst (λ x. Adds (closing_move h.origin h.manner h.fault x) effects c.end_request.new.self)
+    c.new-effects.ensures.state c.in_ok-end_request.ensures in
     record {
-      told = tells-first (closing_move h.origin h.manner h.fault s) news c.end_request.new.self
-          c.new-news.ensures.replies told;
+      told = tells-first (closing_move h.origin h.manner h.fault s) effects c.end_request.new.self
+          c.new-effects.ensures.replies told;
       hand = sym (closing_move-hand h.origin h.manner h.fault s);
       answer = refl;
     }

@@ -9,8 +9,8 @@ returns c = λ g same.
     let h = hand_view c.args.hand.now in
     record {
       told = record {
-        replies = c.new-news.ensures.replies;
-        state = c.new-news.ensures.state;
+        replies = c.new-effects.ensures.replies;
+        state = c.new-effects.ensures.state;
       };
       hand = ap (λ job. Some (with_run h job)) (c.in_ok-job.ensures g same);
       answer = ap form_begun (c.in_ok-given.ensures g same);

@@ -6,7 +6,7 @@ use Rattle.ref_table.specs.Calls.{performed}
 use Rattle.ref_table.specs.Performed.{as_was}
 use Rattle.server_rules.specs.Tenant.{seat_of}
 use Rattle.tenant_parts.specs.Serving.{PerformsCall}
-use Rattle.tenant_parts.specs.Thrice.{told_answer}
+use Rattle.tenant_parts.specs.AnswerCopies.{told_answer}
 use Rattle.tenant_parts.proofs.Calls.{send-told}
 use Rattle.tenant_parts.proofs.Serving.{comes-told}
 use Rattle.tenant_parts.proofs.calling.call.Goals as goal

@@ -7,7 +7,7 @@ use Rattle.ref_history.specs.RingHistories.{RingStands}
 use Rattle.ref_table.specs.Refs.{store_of}
 use Rattle.ref_table.specs.Told.{Performs}
 use Rattle.ref_table.proofs.Telling.{on_err}
-use Rattle.tenant_parts.specs.Thrice.{thrice_view}
+use Rattle.tenant_parts.specs.AnswerCopies.{copies_view}
 use Rattle.tenant_parts.proofs.Serving.{comes-still, holds-new}
 use Rattle.tenant_parts.proofs.calling.make.Goals as goal
 
@@ -25,8 +25,8 @@ returns-clause-called c = λ s r holds.
     let P : AnswerData → Type 0 = λ answer. Performs RingStands c.make.new.self r (Some answer)
     (performed store (makes (view c.in_ok-copy.field-0) bounds.least bounds.most)) in
     let Q : Datum → Type 0 = λ d. Performs RingStands c.make.new.self r
-    (Some (thrice_view c.of_name.result)) (performed store (makes d bounds.least bounds.most)) in
-    comes-still c.make.new.self c.args.refs.now attempts s r (Some (thrice_view c.of_name.result))
+    (Some (copies_view c.of_name.result)) (performed store (makes d bounds.least bounds.most)) in
+    comes-still c.make.new.self c.args.refs.now attempts s r (Some (copies_view c.of_name.result))
     (makes (view c.args.value.now) bounds.least bounds.most) holds
     (subst Q c.in_ok-copy.ensures (subst P (sym c.of_name.ensures.view)
     (c.in_ok-name.ensures.told r s.mine.points attempts.tenant holds.serves.stands refl)))

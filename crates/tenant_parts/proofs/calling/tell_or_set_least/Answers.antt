@@ -1,14 +1,14 @@
 use Rattle.std.proofs.Common.{Option, sym, subst, ◌∙◌}
 use Rattle.repl_asks.specs.Exchange.{AnswerData}
 use Rattle.repl_asks.specs.Inside.View.{name_view}
-use Rattle.tenant_parts.specs.Thrice.{thrice_view}
+use Rattle.tenant_parts.specs.AnswerCopies.{copies_view}
 use Rattle.ref_table.specs.Calls.{performed, sets_least}
 use Rattle.ref_history.specs.RingHistories.{RingStands}
 use Rattle.ref_table.specs.Refs.{store_of}
 use Rattle.ref_table.specs.Told.{Performs}
 use Rattle.tenant_parts.specs.Bounds.{least_call}
 use Rattle.tenant_parts.specs.Serving.{PerformsCall}
-use Rattle.tenant_parts.specs.Thrice.{told_answer}
+use Rattle.tenant_parts.specs.AnswerCopies.{told_answer}
 use Rattle.tenant_parts.proofs.Numbers.{least-comes, least-set-still}
 use Rattle.tenant_parts.proofs.Serving.{comes-still}
 use Rattle.tenant_parts.proofs.calling.tell_or_set_least.Goals as goal
@@ -16,7 +16,7 @@ use Rattle.tenant_parts.proofs.calling.tell_or_set_least.Goals as goal
 pub returns-in_ok-bounds-in-None-clause-called : goal.returns-in_ok-bounds-in-None-clause-called
 returns-in_ok-bounds-in-None-clause-called c = λ s r holds.
     least-comes c.args.refs.now c.args.attempts.now s r (name_view c.args.name) c.args.set
-    c.in_ok-bounds-in-None.field-0 (thrice_view c.of_number.result) holds c.in-None.is
+    c.in_ok-bounds-in-None.field-0 (copies_view c.of_number.result) holds c.in-None.is
     (sym c.in_ok-bounds-in-None.was ∙ c.bounds.ensures r s.mine.points holds.serves.stands)
     c.of_number.ensures.view
 

@@ -5,7 +5,7 @@ use Rattle.server_rules.specs.Starting.{action_begun, action_for, start_action, 
 use Rattle.server_rules.specs.Plan.{StepAnswer, Outcome, form_begun}
 use Rattle.tenant_parts.specs.View.{actor_view}
 use Rattle.tenant_asks.specs.Acting.{AcceptsOutcome}
-use Rattle.tenant_world.specs.Actions.{next_view, hand_of}
+use Rattle.tenant_world.specs.Actions.{next_action_view, hand_of_action}
 use Rattle.tenant_world.specs.Answers.{start_answer_view}
 use Rattle.tenant_asks.specs.Cells.{cells_data}
 use Rattle.tenant_world.proofs.Acts.{remembers-begun, action-agents, action-accepted}
@@ -20,15 +20,15 @@ returns-clause-acted c = λ g t q tries r.
     let new = actor_view (record c.args.state.now { hand = Some c.in_ok-hand.hand }) in
     let old = c.args.memory.now in
     let memory = record old { cells = record old.cells { agents = c.take_ready.new.self } } in
-    let next = next_view c.in-Some.next in
+    let next = next_action_view c.in-Some.next in
     let found : action_for a q.cells.agents ≡ Some next =
     sym (ap (λ x. action_for a x.agents) r.cells) ∙ sym c.next_for.ensures
-    ∙ ap (option_map next_view) c.in-Some.is in
+    ∙ ap (option_map next_action_view) c.in-Some.is in
     let free = held-so g t old q c.is_held.result r c.is_held.ensures ∙ c.if-is_held.false in
     let later = with_action_begun q in
     let job = c.in_ok-job.ensures g tries in
     let put = ap (λ x. record actor { hand = Some x })
-    (c.in_ok-hand.ensures ∙ ap (hand_of next.action) job) in
+    (c.in_ok-hand.ensures ∙ ap (hand_of_action next.action) job) in
     let now = remembers-begun g t old memory a q r (refl, refl, refl, refl)
     (ap (λ x. with_agents x (cells_data old.cells)) c.take_ready.ensures.begun)
     (action-agents a q.cells.agents next found) in
@@ -46,39 +46,39 @@ returns-clause-acted c = λ g t q tries r.
 pub returns-in_err-job-clause-no_memory : goal.returns-in_err-job-clause-no_memory
 returns-in_err-job-clause-no_memory c = λ g t q r none.
     let a = c.args.actor in
-    let next = next_view c.in-Some.next in
+    let next = next_action_view c.in-Some.next in
     let found : action_for a q.cells.agents ≡ Some next =
     sym (ap (λ x. action_for a x.agents) r.cells) ∙ sym c.next_for.ensures
-    ∙ ap (option_map next_view) c.in-Some.is in
+    ∙ ap (option_map next_action_view) c.in-Some.is in
     action-accepted g a (actor_view c.args.state.now) q next found
     (held-so g t c.args.memory.now q c.is_held.result r c.is_held.ensures ∙ c.if-is_held.false)
 
 pub returns-in_err-given-clause-no_memory : goal.returns-in_err-given-clause-no_memory
 returns-in_err-given-clause-no_memory c = λ g t q r none.
     let a = c.args.actor in
-    let next = next_view c.in-Some.next in
+    let next = next_action_view c.in-Some.next in
     let found : action_for a q.cells.agents ≡ Some next =
     sym (ap (λ x. action_for a x.agents) r.cells) ∙ sym c.next_for.ensures
-    ∙ ap (option_map next_view) c.in-Some.is in
+    ∙ ap (option_map next_action_view) c.in-Some.is in
     action-accepted g a (actor_view c.args.state.now) q next found
     (held-so g t c.args.memory.now q c.is_held.result r c.is_held.ensures ∙ c.if-is_held.false)
 
 pub returns-in_err-answers-clause-no_memory : goal.returns-in_err-answers-clause-no_memory
 returns-in_err-answers-clause-no_memory c = λ g t q r none.
     let a = c.args.actor in
-    let next = next_view c.in-Some.next in
+    let next = next_action_view c.in-Some.next in
     let found : action_for a q.cells.agents ≡ Some next =
     sym (ap (λ x. action_for a x.agents) r.cells) ∙ sym c.next_for.ensures
-    ∙ ap (option_map next_view) c.in-Some.is in
+    ∙ ap (option_map next_action_view) c.in-Some.is in
     action-accepted g a (actor_view c.args.state.now) q next found
     (held-so g t c.args.memory.now q c.is_held.result r c.is_held.ensures ∙ c.if-is_held.false)
 
 pub returns-in_err-hand-clause-no_memory : goal.returns-in_err-hand-clause-no_memory
 returns-in_err-hand-clause-no_memory c = λ g t q r none.
     let a = c.args.actor in
-    let next = next_view c.in-Some.next in
+    let next = next_action_view c.in-Some.next in
     let found : action_for a q.cells.agents ≡ Some next =
     sym (ap (λ x. action_for a x.agents) r.cells) ∙ sym c.next_for.ensures
-    ∙ ap (option_map next_view) c.in-Some.is in
+    ∙ ap (option_map next_action_view) c.in-Some.is in
     action-accepted g a (actor_view c.args.state.now) q next found
     (held-so g t c.args.memory.now q c.is_held.result r c.is_held.ensures ∙ c.if-is_held.false)

@@ -5,7 +5,7 @@ use Rattle.repl_sessions.specs.State.{StateData}
 use Rattle.repl_sessions.specs.Inside.StateView.{state_view}
 use Rattle.server_rules.specs.Cells.{CellsData, with_agents}
 use Rattle.server_rules.specs.Ending.{with_cells_ended}
-use Rattle.server_rules.specs.Request.{Hand}
+use Rattle.server_rules.specs.Request.{WorkInHand}
 use Rattle.server_rules.specs.Tenant.{actor_state}
 use Rattle.server_rules.specs.Moves.{form_ended}
 use Rattle.server_rules.specs.Starting.{after_move}
@@ -25,7 +25,7 @@ returns-clause-acted c = λ g q s' h run e is r hand running.
     let new = actor_view c.put_after.new.state in
     let old = c.args.memory.now in
     let prepared = record old { cells = record old.cells { agents = c.prepare_end.new.agents } } in
-    let posted = c.post_news.new.memory in
+    let posted = c.post_effects.new.memory in
     let memory = record posted { cells = record posted.cells { agents = c.settle_end.new.agents } } in
     let end = finished_view c.args.finished.now in
     let k = hand_view c.in-Some.hand in
@@ -36,8 +36,8 @@ returns-clause-acted c = λ g q s' h run e is r hand running.
     let m = form_ended k end s in
     let still = remembers-agents g s'.tenant old prepared q (refl, refl, refl, refl)
     (ap (λ x. with_agents x (cells_data old.cells)) c.prepare_end.ensures.same) r in
-    let ends = c.in_ok-news.ensures in
-    let taken = c.in_ok-post_news.ensures.taken g s'.tenant q m still ends.told in
+    let ends = c.in_ok-effects.ensures in
+    let taken = c.in_ok-post_effects.ensures.taken g s'.tenant q m still ends.told in
     let before : cells_data posted.cells ≡ q.cells = taken.cells ∙ moved-cells a m q in
     let made = c.in_ok-end.ensures.made in
     let cells = ap (λ x. with_agents x (cells_data posted.cells)) c.settle_end.ensures
@@ -45,7 +45,7 @@ returns-clause-acted c = λ g q s' h run e is r hand running.
     ∙ ap (λ x. with_agents (agents_behind (action_end a k (end_view x)) (cells_data posted.cells).agents)
     (cells_data posted.cells)) c.end.ensures
     ∙ ap (λ x. with_agents (agents_behind (action_end a k end.result) x.agents) x) before in
-    let E : EndData → Hand → CellsData = λ x y.
+    let E : EndData → WorkInHand → CellsData = λ x y.
     with_agents (agents_behind (action_end a y x.result) q.cells.agents) q.cells in
     let behind = cells ∙ ap (λ y. E end y) same_hand ∙ ap (λ x. E x h) (sym is)
     ∙ ended-cells a h run e q.cells running in
@@ -53,7 +53,7 @@ returns-clause-acted c = λ g q s' h run e is r hand running.
     let now = remembers-ended g s'.tenant posted memory a m q later.cells taken (refl, refl, refl, refl) behind in
     let put = c.put_after.ensures k kept ∙ ap (λ x. record actor { hand = x }) ends.hand in
     let here = acted-after_move g s'.tenant memory a actor new m form_finished later now put refl in
-    let P : Hand → EndData → StateData → Type 0 = λ x y z. AcceptsOutcome g s'.tenant a later
+    let P : WorkInHand → EndData → StateData → Type 0 = λ x y z. AcceptsOutcome g s'.tenant a later
     (leaves (with_step_spent (after_move a actor (form_ended x y z) later)) form_finished) memory new form_finished in
     acted-with_cells g s'.tenant memory a new _ form_finished later.cells q
     (subst (P h e.end) same_state (subst (λ y. P h y s) (sym is) (subst (λ x. P x end s) same_hand here)))

@@ -13,9 +13,9 @@ returns-clause-acted c = λ g t q h start r free hand goes.
     let a = c.args.actor in
     let actor = actor_view c.args.state.now in
     let new = actor_view c.put_begun-given.new.state in
-    let memory = c.post_news.new.memory in
+    let memory = c.post_effects.new.memory in
     let given = given_job c.args.next.begun in
-    let taken = c.in_ok-post_news.ensures.taken g t q start.move r goes.told in
+    let taken = c.in_ok-post_effects.ensures.taken g t q start.move r goes.told in
     let put = c.put_begun-given.ensures.hand h hand
     ∙ ap (λ x. record actor { hand = x }) goes.hand in
     let told = goes.answer in
@@ -24,6 +24,6 @@ returns-clause-acted c = λ g t q h start r free hand goes.
     (held_or q (start_outcome a actor start q)) memory new x in
     subst P (sym c.put_begun-given.ensures.answer) here
 
-pub returns-in_err-post_news-clause-stays : goal.returns-in_err-post_news-clause-stays
-returns-in_err-post_news-clause-stays c = λ g t q r.
-    on_err c.from_residual-in_err-post_news.result (c.in_err-post_news.ensures.stays g t q r)
+pub returns-in_err-post_effects-clause-stays : goal.returns-in_err-post_effects-clause-stays
+returns-in_err-post_effects-clause-stays c = λ g t q r.
+    on_err c.from_residual-in_err-post_effects.result (c.in_err-post_effects.ensures.stays g t q r)

@@ -1,7 +1,7 @@
 use Rattle.std.proofs.Common.{◌≡◌, ◌∙◌, sym, ap, subst, option_map}
 use Rattle.repl_sessions.specs.State.{StateData}
 use Rattle.repl_sessions.specs.Inside.StateView.{state_view}
-use Rattle.server_rules.specs.Request.{Hand}
+use Rattle.server_rules.specs.Request.{WorkInHand}
 use Rattle.server_rules.specs.Tenant.{actor_state}
 use Rattle.server_rules.specs.Starting.{held_or, start_outcome, next_begun}
 use Rattle.tenant_parts.specs.View.{actor_view, hand_view}
@@ -32,7 +32,7 @@ returns-clause-acted c = λ g t q h tries r hand.
     let start = next_begun g k s k.forms in
     let answer = start_answer_view c.in_ok-answers.answers.given in
     let here = c.in_ok-answers.ensures.acted g t q k start r free kept (c.in_ok-next.ensures g tries) in
-    let P : Hand → Type 0 = λ x. AcceptsOutcome g t a q
+    let P : WorkInHand → Type 0 = λ x. AcceptsOutcome g t a q
     (held_or q (start_outcome a actor (next_begun g x s x.forms) q)) memory new answer in
     let Q : StateData → Type 0 = λ x. AcceptsOutcome g t a q
     (held_or q (start_outcome a actor (next_begun g h x h.forms) q)) memory new answer in

@@ -17,17 +17,17 @@ use Rattle.tenant_world.proofs.Remembering.{held-so, declined-memory, step-witho
 use Rattle.tenant_world.proofs.Begins.{acted-start_outcome, waiting-taken, waiting-accepted}
 use Rattle.tenant_world.proofs.starting.start_request.Goals as goal
 
-pub returns-in_err-post_news-clause-declined : goal.returns-in_err-post_news-clause-declined
-returns-in_err-post_news-clause-declined c = λ g t q right tries r hand.
-    declined-memory g t q _ _ c.from_residual-in_err-post_news.result
-    c.from_residual-in_err-post_news.ensures.1 (c.in_err-post_news.ensures.stays g t q r)
+pub returns-in_err-post_effects-clause-declined : goal.returns-in_err-post_effects-clause-declined
+returns-in_err-post_effects-clause-declined c = λ g t q right tries r hand.
+    declined-memory g t q _ _ c.from_residual-in_err-post_effects.result
+    c.from_residual-in_err-post_effects.ensures.1 (c.in_err-post_effects.ensures.stays g t q r)
 
 pub returns-clause-acted : goal.returns-clause-acted
 returns-clause-acted c = λ g t q right tries r hand.
     let a = c.args.actor in
     let actor = actor_view c.args.state.now in
     let new = actor_view c.put_next_in_hand.new.state in
-    let memory = c.post_news.new.memory in
+    let memory = c.post_effects.new.memory in
     let w = waiting_view c.in-Some.waiting.now in
     let behind = record actor { waiting = younger actor.waiting } in
     let s = state_view c.in_ok-session.session in
@@ -36,9 +36,9 @@ returns-clause-acted c = λ g t q right tries r hand.
     let same_state : s ≡ first_state a q = c.in_ok-session.ensures g t q r in
     let free = held-so g t c.args.memory.now q c.is_held.result r c.is_held.ensures ∙ c.if-is_held.false in
     let start = text_begun g spaces w.origin s w.text in
-    let given = c.in_ok-news.field-0.given in
-    let takes = c.in_ok-news.ensures g right.readings tries in
-    let taken = c.in_ok-post_news.ensures.taken g t q start.move r takes.told in
+    let given = c.in_ok-effects.field-0.given in
+    let takes = c.in_ok-effects.ensures g right.readings tries in
+    let taken = c.in_ok-post_effects.ensures.taken g t q start.move r takes.told in
     let put = c.put_next_in_hand.ensures
     ∙ ap (λ x. with_next_in_hand x actor) takes.hand in
     let told = takes.answer in
@@ -62,8 +62,8 @@ returns-in_err-session-clause-no_memory c = λ g t q r none.
     (sym c.oldest.ensures ∙ ap (option_map (λ x. waiting_view x.now)) c.in-Some.is)
     (held-so g t c.args.memory.now q c.is_held.result r c.is_held.ensures ∙ c.if-is_held.false)
 
-pub returns-in_err-news-clause-no_memory : goal.returns-in_err-news-clause-no_memory
-returns-in_err-news-clause-no_memory c = λ g t q r none.
+pub returns-in_err-effects-clause-no_memory : goal.returns-in_err-effects-clause-no_memory
+returns-in_err-effects-clause-no_memory c = λ g t q r none.
     let actor = actor_view c.args.state.now in
     waiting-accepted g c.args.actor actor q (waiting_view c.in-Some.waiting.now) actor.waiting
     (sym c.oldest.ensures ∙ ap (option_map (λ x. waiting_view x.now)) c.in-Some.is)
@@ -76,8 +76,8 @@ returns-in_err-answers-clause-no_memory c = λ g t q r none.
     (sym c.oldest.ensures ∙ ap (option_map (λ x. waiting_view x.now)) c.in-Some.is)
     (held-so g t c.args.memory.now q c.is_held.result r c.is_held.ensures ∙ c.if-is_held.false)
 
-pub returns-in_err-post_news-clause-no_memory : goal.returns-in_err-post_news-clause-no_memory
-returns-in_err-post_news-clause-no_memory c = λ g t q r none.
+pub returns-in_err-post_effects-clause-no_memory : goal.returns-in_err-post_effects-clause-no_memory
+returns-in_err-post_effects-clause-no_memory c = λ g t q r none.
     let actor = actor_view c.args.state.now in
     waiting-accepted g c.args.actor actor q (waiting_view c.in-Some.waiting.now) actor.waiting
     (sym c.oldest.ensures ∙ ap (option_map (λ x. waiting_view x.now)) c.in-Some.is)
@@ -88,10 +88,10 @@ returns-in_err-answers-clause-step c =
     step-without-memory _ _ _ _ c.from_residual-in_err-answers.result
     c.from_residual-in_err-answers.ensures.1 refl refl
 
-pub returns-in_err-post_news-clause-step : goal.returns-in_err-post_news-clause-step
-returns-in_err-post_news-clause-step c =
-    step-without-memory _ _ _ _ c.from_residual-in_err-post_news.result
-    c.from_residual-in_err-post_news.ensures.1 refl c.post_news.ensures.opened
+pub returns-in_err-post_effects-clause-step : goal.returns-in_err-post_effects-clause-step
+returns-in_err-post_effects-clause-step c =
+    step-without-memory _ _ _ _ c.from_residual-in_err-post_effects.result
+    c.from_residual-in_err-post_effects.ensures.1 refl c.post_effects.ensures.opened
 
 pub returns-in_default-clause-acted : goal.returns-in_default-clause-acted
 returns-in_default-clause-acted c = λ g t q right tries r hand.

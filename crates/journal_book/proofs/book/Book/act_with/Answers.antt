@@ -2,7 +2,7 @@ use Rattle.std.proofs.Common.{rules, ◌+◌, ◌∙◌, length, sym, ap, subst,
 use Rattle.repl_core.specs.Steps.{step_view, step_answer_view}
 use Rattle.journal_book.specs.Forms.{EndsAsTold}
 use Rattle.journal_book.specs.View.{BookData, entries}
-use Rattle.journal_book.specs.Standing.{IsAnswered, IsRefused, Notes, entry}
+use Rattle.journal_book.specs.Standing.{IsAnswered, IsRefusedBehind, Notes, entry_of}
 use Rattle.journal_book.proofs.Keeping.{err-so}
 use Rattle.journal_book.proofs.book.Book.act_with.Goals as goal
 
@@ -29,7 +29,7 @@ invariant_of-self-2 g c =
 pub returns-in_err-answer-clause-declined : goal.returns-in_err-answer-clause-declined
 returns-in_err-answer-clause-declined g c =
     let it = c.in_err-answer.field-0.0 in
-    let P : BookData → Type 0 = λ b. IsRefused b.config (entries b.journal) (step_view c.args.step) it.why in
+    let P : BookData → Type 0 = λ b. IsRefusedBehind b.config (entries b.journal) (step_view c.args.step) it.why in
     err-so _ c.from_residual.result it c.from_residual.ensures.1 (
       search rules,
       record {
@@ -49,7 +49,7 @@ returns-clause-made g c =
       tenants = c.self.inside.tenants;
     } in
     let written = c.in_ok-answer.ensures.written c.self.inside.config c.self.invariant.0 in
-    let P : BookData → Type 0 = λ b. Notes b after (entry (step_view c.args.step) answer) in
+    let P : BookData → Type 0 = λ b. Notes b after (entry_of (step_view c.args.step) answer) in
     let Q : BookData → Type 0 = λ b. IsAnswered b.config (entries b.journal) (step_view c.args.step) answer in (
       search rules,
       record {

@@ -2,7 +2,7 @@ use Rattle.std.proofs.Common.{rules, ◌≡◌, ◌+◌, ◌*◌, ◌∙◌, len
 use Rattle.server_rules.specs.Plan.{tenant_opened}
 use Rattle.server_rules.specs.Machine.World.{opens}
 use Rattle.journal_book.specs.View.{BookData, entries}
-use Rattle.journal_book.specs.Standing.{IsAnswered, Notes, RefusesTenant, entry}
+use Rattle.journal_book.specs.Standing.{IsAnswered, Notes, RefusesTenant, entry_of}
 use Rattle.journal_book.proofs.Keeping.{err-so}
 use Rattle.journal_book.proofs.book.Book.admit.Goals as goal
 
@@ -49,7 +49,7 @@ returns-clause-admitted g c =
       journal = c.open.new.journal.items;
       tenants = c.self.inside.tenants + 1;
     } in
-    let P : BookData → Type 0 = λ b. Notes b after (entry (opens c.self.inside.tenants) tenant_opened) in
+    let P : BookData → Type 0 = λ b. Notes b after (entry_of (opens c.self.inside.tenants) tenant_opened) in
     let Q : BookData → Type 0 = λ b. IsAnswered b.config (entries b.journal) (opens b.tenants)
     tenant_opened in
     record {

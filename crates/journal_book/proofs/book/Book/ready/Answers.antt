@@ -14,9 +14,9 @@ returns g c =
     let book = c.self.inside in
     let P : BookData → Type 0 = λ b. (ground : Ground) (w : World) → IsConfigured ground b.config
     → IsJournal ground (opened_world ground) (entries b.journal) w
-    → c.ready.result ≡ option_and_then (λ it. rules.ready it.quiet) (open_in c.args.tenant w) in
+    → c.ready.result ≡ option_and_then (λ it. rules.ready it.state) (open_in c.args.tenant w) in
     subst P c.self.view_is (λ ground w conf leads.
     let k = c.self.invariant.0.1 ground conf in
     told-so ground book.machine (entries book.journal.items) k w leads
-    (λ x. c.ready.result ≡ option_and_then (λ it. rules.ready it.quiet) (open_in c.args.tenant x))
+    (λ x. c.ready.result ≡ option_and_then (λ it. rules.ready it.state) (open_in c.args.tenant x))
     (c.ready.ensures ground k.world k.stands))

@@ -3,7 +3,7 @@ use Rattle.server_rules.specs.Ground.{Ground}
 use Rattle.server_rules.specs.Machine.Turns.{serve}
 use Rattle.server_rules.specs.Machine.World.{opened_world}
 use Rattle.repl_core.specs.Configured.{IsConfigured}
-use Rattle.journal_book.specs.Alone.{bytes_to, NamesNoSharedIn, steps_of, turns_of, IsHonest}
+use Rattle.journal_book.specs.Alone.{bytes_to, NamesNoSharedIn, own_steps, own_turns, IsHonest}
 use Rattle.journal_book.specs.View.{BookData, entries}
 use Rattle.journal_book.proofs.Alone.{steps-alone, turns-alone}
 use Rattle.journal_book.proofs.book.Book.serves_as_if_alone.Goals as goal
@@ -14,7 +14,7 @@ returns-clause-steps g c =
     let P : BookData → Type 0 = λ b. (ground : Ground) (t : ℕ) → IsConfigured ground b.config
     → NamesNoSharedIn t (entries b.journal)
     → bytes_to t (entries b.journal)
-    ≡ serve ground (opened_world ground) (steps_of t (entries b.journal)) t in
+    ≡ serve ground (opened_world ground) (own_steps t (entries b.journal)) t in
     subst P c.self.view_is (λ ground t conf private.
     let k = c.self.invariant.0.1 ground conf in
     steps-alone ground t k.world journal k.leads private)
@@ -26,7 +26,7 @@ returns-clause-turns g c =
     → NamesNoSharedIn t (entries b.journal)
     → IsHonest ground (opened_world ground) t (entries b.journal)
     → bytes_to t (entries b.journal)
-    ≡ serve ground (opened_world ground) (turns_of t (entries b.journal)) t in
+    ≡ serve ground (opened_world ground) (own_turns t (entries b.journal)) t in
     subst P c.self.view_is (λ ground t conf private honest.
     let k = c.self.invariant.0.1 ground conf in
     turns-alone ground t k.world journal k.leads private honest)

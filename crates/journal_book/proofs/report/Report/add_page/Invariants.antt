@@ -1,8 +1,8 @@
 use Rattle.std.proofs.Common.{◌≡◌, ◌+◌, ◌≤◌, ℕ, length, take}
-use Rattle.journal_book.specs.Rows.{row, row_of, entries_by}
+use Rattle.journal_book.specs.Rows.{made_row, row_of, entries_by}
 use Rattle.journal_book.proofs.report.Report.add_page.Given as goal
 
 abbrev pub invariant-loop-i : goal.invariant-loop-i
 invariant-loop-i l = ((t : ℕ) → row_of t l.self
-    ≡ row ((row_of t l.fn.self).journalled + entries_by t (take l.i l.page)) (row_of t l.fn.self).made)
+    ≡ made_row ((row_of t l.fn.self).journalled + entries_by t (take l.i l.page)) (row_of t l.fn.self).made)
     × (l.i ≤ length l.page)

@@ -2,7 +2,7 @@ use Rattle.std.proofs.Common.{◌≡◌, ◌∙◌, IfSome, refl, sym, ap, subst
 use Rattle.knowing_book.specs.Lasts.{AreLasts}
 use Rattle.server_rules.specs.Machine.World.{opens}
 use Rattle.server_rules.specs.Plan.{tenant_opened}
-use Rattle.journal_book.specs.Standing.{entry}
+use Rattle.journal_book.specs.Standing.{entry_of}
 use Rattle.journal_book.specs.View.{entries}
 use Rattle.knowing_book.specs.Keys.{entry_key}
 use Rattle.knowing_book.proofs.Entries.{length-entries, length-known}
@@ -12,7 +12,7 @@ use Rattle.knowing_book.proofs.book.KnowingBook.admit.Goals as goal
 pub invariant_of-self-2 : goal.invariant_of-self-2
 invariant_of-self-2 g c =
     let b = c.self.inside in
-    let e = entry (opens c.in_ok-places.places.tenant) tenant_opened in
+    let e = entry_of (opens c.in_ok-places.places.tenant) tenant_opened in
     let now = c.in_ok-places.ensures.admitted.journal.journal in
     let long : length (entries b.book.journal) ≡ c.len-place.result =
     length-entries b.book.journal ∙ ap length (sym c.journal.ensures) ∙ sym c.len-place.ensures in (

@@ -6,7 +6,7 @@ use Rattle.server_rules.specs.Plan.{asks_for, ask_answered}
 use Rattle.repl_core.specs.Forms.{form_by_step}
 use Rattle.repl_core.specs.Steps.{step_answer_view}
 use Rattle.tenant_asks.specs.Asking.{exchange_from, run_with}
-use Rattle.journal_book.specs.Standing.{IsMade, entry}
+use Rattle.journal_book.specs.Standing.{IsMade, entry_of}
 use Rattle.journal_book.specs.View.{entries}
 use Rattle.knowing_book.specs.Keys.{actor_key, last_by}
 use Rattle.knowing_book.specs.Knowledge.{Knows}
@@ -67,7 +67,7 @@ invariant_of-result g c =
     let later = c.later.result in
     let kept = c.get-kept.result in
     let before = entries c.args.self.now.journal in
-    let e = entry (does t (asks_for a asked)) answer in
+    let e = entry_of (does t (asks_for a asked)) answer in
     let knows : Knows fact.known fact.tenant a fact.last form =
     subst (λ u. Knows fact.known u a fact.last form) (sym c.of-fact.ensures.tenant)
     (subst (λ x. Knows fact.known t x fact.last form) (sym c.of-fact.ensures.actor)

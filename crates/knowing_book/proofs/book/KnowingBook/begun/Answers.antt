@@ -4,7 +4,7 @@ use Rattle.server_rules.specs.Machine.World.{does}
 use Rattle.server_rules.specs.Plan.{starts}
 use Rattle.repl_core.specs.Steps.{step_answer_view}
 use Rattle.journal_book.specs.Forms.{form_told}
-use Rattle.journal_book.specs.Standing.{entry}
+use Rattle.journal_book.specs.Standing.{entry_of}
 use Rattle.journal_book.specs.View.{entries}
 use Rattle.knowing_book.specs.Knowledge.{Knows}
 use Rattle.knowing_book.specs.View.{begun_run}
@@ -21,7 +21,7 @@ invariant_of-result g c =
     let told : form_told t a (entries c.args.self.now.journal) ≡ Some (begun_run job) =
     ap (form_told t a)
     (c.requires.1
-    ∙ ap (λ x. one-more before (entry (does t (starts a)) (step_answer_view x))) c.in-Begun.is)
+    ∙ ap (λ x. one-more before (entry_of (does t (starts a)) (step_answer_view x))) c.in-Begun.is)
     ∙ begun-told t a before (job_view job) in
     subst (λ u. Knows fact.known u fact.actor fact.last (begun_run job)) (sym c.fact-fact.ensures.tenant)
     (subst (λ b. Knows fact.known t b fact.last (begun_run job)) (sym c.fact-fact.ensures.actor)

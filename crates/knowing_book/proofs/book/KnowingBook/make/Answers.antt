@@ -1,7 +1,7 @@
 use Rattle.std.proofs.Common.{◌≡◌, ◌∙◌, IfSome, sym, ap, subst, length}
 use Rattle.knowing_book.specs.Lasts.{AreLasts}
 use Rattle.repl_core.specs.Steps.{step_view, step_answer_view}
-use Rattle.journal_book.specs.Standing.{entry}
+use Rattle.journal_book.specs.Standing.{entry_of}
 use Rattle.journal_book.specs.View.{entries}
 use Rattle.knowing_book.specs.Keys.{entry_key}
 use Rattle.knowing_book.proofs.Entries.{length-entries, length-known}
@@ -11,7 +11,7 @@ use Rattle.knowing_book.proofs.book.KnowingBook.make.Goals as goal
 pub invariant_of-self-2 : goal.invariant_of-self-2
 invariant_of-self-2 g c =
     let b = c.self.inside in
-    let e = entry (step_view c.args.step) (step_answer_view c.in_ok-receipt.receipt.answer) in
+    let e = entry_of (step_view c.args.step) (step_answer_view c.in_ok-receipt.receipt.answer) in
     let now = c.in_ok-receipt.ensures.made.1.journal.journal in
     let long : length (entries b.book.journal) ≡ c.in_ok-receipt.receipt.place =
     length-entries b.book.journal ∙ sym c.in_ok-receipt.ensures.made.0 in (

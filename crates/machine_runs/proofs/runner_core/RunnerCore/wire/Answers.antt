@@ -5,7 +5,7 @@ use Rattle.machine_runs.proofs.runner_core.RunnerCore.wire.Goals as goal
 pub returns-in-Some : goal.returns-in-Some
 returns-in-Some c = λ g l s.
     let there = sym c.tenant.ensures ∙ ap (option_map (λ it. it.now)) c.in-Some.is in
-    c.wire.ensures g l.quiet l.store s.right
+    c.wire.ensures g l.state l.store s.right
     (tenant-of g l c.args.self.now c.in-Some.tenant.now s there)
 
 pub returns-in-None : goal.returns-in-None

@@ -5,7 +5,7 @@ use Rattle.std.specs.BinaryHeap.{heap_items}
 use Rattle.value_data.specs.Inside.View.{view}
 use Rattle.private_cells.specs.Agents.{AgentData}
 use Rattle.private_cells.specs.Inside.Seen.{cells_view, cell_view}
-use Rattle.private_cells.specs.Inside.Changes.{with_state}
+use Rattle.private_cells.specs.Inside.Changes.{with_agent_state}
 use Rattle.private_cells.specs.Inside.Kept.{waiting_at, count_from, runs_at}
 use Rattle.private_cells.proofs.Keeping.{waiting_kept, runs_over, over_none, over_one}
 use Rattle.private_cells.proofs.Heaping.{room_to_open, turns_opened}
@@ -45,14 +45,14 @@ invariant_of-self c =
           let room = c.open.ensures.room in
           omega (arith, same, room, self.turns_fit);
       counted = λ q. self.counted q
-          ∙ sym (ap (count_from q.session) (waiting_kept (with_state (view c.args.value))
+          ∙ sym (ap (count_from q.session) (waiting_kept (with_agent_state (view c.args.value))
           (λ a. refl) number q.agent old))
           ∙ sym (ap (λ ys. count_from q.session (waiting_at q.agent ys)) seen);
-      alone = λ i. ap (runs_at i) seen ∙ runs_over (with_state (view c.args.value)) (λ a. refl)
+      alone = λ i. ap (runs_at i) seen ∙ runs_over (with_agent_state (view c.args.value)) (λ a. refl)
           number i old one;
       short = λ i.
           let now = ap (λ ys. length (waiting_at i ys)) seen in
-          let same = ap length (waiting_kept (with_state (view c.args.value)) (λ a. refl) number
+          let same = ap length (waiting_kept (with_agent_state (view c.args.value)) (λ a. refl) number
           i old) in
           let before = self.short i in
           omega (arith, now, same, before);

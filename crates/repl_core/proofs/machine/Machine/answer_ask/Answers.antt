@@ -29,7 +29,7 @@ returns-clause-done c = λ g w right s.
         stands = it.0.stands;
       },
       it.1,
-    )) (c.answer_copied.ensures.done g kept.quiet at s.refs right st serves))
+    )) (c.answer_copied.ensures.done g kept.state at s.refs right st serves))
     (left-so c.in-Some.is (c.get_mut.follows.holds c.answer_copied.new.self)).put
     (left-so c.in-Some.is (c.get_mut.follows.holds c.answer_copied.new.self)).others
 
@@ -41,7 +41,7 @@ returns-clause-refused c = λ g w right s.
     refuses-so g w t d old (c.get_mut.follows.lender c.answer_copied.new.self) c.answer_copied.new.refs c.in-Some.tenant.now c.answer_copied.new.self
     c.answer_copied.result s (sym c.in-Some.ensures.value)
     (λ kept st serves.
-    c.answer_copied.ensures.refused g kept.quiet (store_in w.around t kept.mine) s.refs right st serves)
+    c.answer_copied.ensures.refused g kept.state (store_in w.around t kept.mine) s.refs right st serves)
     (left-so c.in-Some.is (c.get_mut.follows.holds c.answer_copied.new.self)).put
     (left-so c.in-Some.is (c.get_mut.follows.holds c.answer_copied.new.self)).others
 
@@ -50,5 +50,5 @@ returns-clause-no_memory c = λ g w right s room none.
     let t = c.args.number in
     accepts-so g w t (deeds.asks_for c.args.actor (ask_view c.args.ask.now)) c.args.self.now
     c.in-Some.tenant.now s (sym c.in-Some.ensures.value)
-    (λ kept st serves. c.answer_copied.ensures.no_memory g kept.quiet
+    (λ kept st serves. c.answer_copied.ensures.no_memory g kept.state
     (store_in w.around t kept.mine) s.refs st serves none)

@@ -22,8 +22,8 @@ returns-in-Some-drain-clause-done c = λ g w right s.
     (λ x. reply_given x.items) (Ok c.in-Some-drain.bytes) s (sym c.in-Some.ensures.value)
     (λ kept st serves.
     let at = store_in w.around t kept.mine in (
-      c.in-Some-drain.ensures.drained g kept.quiet at st,
-      serves-all-still old.refs at _ s.refs serves (drains-reached g kept.quiet at),
+      c.in-Some-drain.ensures.drained g kept.state at st,
+      serves-all-still old.refs at _ s.refs serves (drains-reached g kept.state at),
     ))
     (left-so c.in-Some.is (c.get_mut.follows.holds c.drain.new.self)).put
     (left-so c.in-Some.is (c.get_mut.follows.holds c.drain.new.self)).others
@@ -35,7 +35,7 @@ returns-in-None-clause-refused c = λ g w right s.
     refuses-so {X = ℕ} g w t deeds.drains old (c.get_mut.follows.lender c.drain.new.self) old.refs c.in-Some.tenant.now
     c.drain.new.self (Err Refusal.Idle) s (sym c.in-Some.ensures.value)
     (λ kept st serves. (
-      c.in-None.ensures.drained g kept.quiet
+      c.in-None.ensures.drained g kept.state
           (store_in w.around t kept.mine) st,
       serves,
     ))

@@ -21,7 +21,7 @@ returns-in_err-replies-clause-no_memory c = λ g w right s none.
     let t = c.args.number in
     accepts-so g w t deeds.drains c.args.self.now c.in-Some.tenant.now s (sym c.in-Some.ensures.value)
     (λ kept st serves.
-    c.in_err-replies.ensures.no_memory g kept.quiet (store_in w.around t kept.mine) st)
+    c.in_err-replies.ensures.no_memory g kept.state (store_in w.around t kept.mine) st)
 
 pub returns-in-Some-2-clause-done : goal.returns-in-Some-2-clause-done
 returns-in-Some-2-clause-done c = λ g w right s.
@@ -32,8 +32,8 @@ returns-in-Some-2-clause-done c = λ g w right s.
     (λ x. reply_given x.given.items) (Ok c.in-Some-2.replies) s (sym c.in-Some.ensures.value)
     (λ kept st serves.
     let at = store_in w.around t kept.mine in (
-      rw c.in-Some-2.is at (c.in_ok-replies.ensures.drained g kept.quiet at st),
-      serves-all-still old.refs at _ s.refs serves (drains-reached g kept.quiet at),
+      rw c.in-Some-2.is at (c.in_ok-replies.ensures.drained g kept.state at st),
+      serves-all-still old.refs at _ s.refs serves (drains-reached g kept.state at),
     ))
     (left-so c.in-Some.is (c.get_mut.follows.holds c.drain_copied.new.self)).put
     (left-so c.in-Some.is (c.get_mut.follows.holds c.drain_copied.new.self)).others
@@ -45,7 +45,7 @@ returns-in-None-clause-refused c = λ g w right s.
     refuses-so {X = ℕ} g w t deeds.drains old (c.get_mut.follows.lender c.drain_copied.new.self) old.refs c.in-Some.tenant.now
     c.drain_copied.new.self (Err Refusal.Idle) s (sym c.in-Some.ensures.value)
     (λ kept st serves. (
-      rw c.in-None.is at (c.in_ok-replies.ensures.drained g kept.quiet
+      rw c.in-None.is at (c.in_ok-replies.ensures.drained g kept.state
           (store_in w.around t kept.mine) st),
       serves,
     ))

@@ -40,12 +40,12 @@ returns-clause-done c = λ g w right s.
     (λ kept st serves.
     let at = store_in w.around t kept.mine in
     let D : EndingData → Type 0 = λ x. IfOk c.end_form.result (λ y.
-    world.AcceptsDeedBy g c.args.actor kept.quiet
-    (deed_result g at kept.quiet (deeds.ends c.args.actor x)) c.end_form.new.self (end_answer_view y)) in
-    of-actor g c.args.actor kept.quiet _ c.end_form.new.self end_answer_view _ c.end_form.result
-    (subst D is (c.end_form.ensures.done g kept.quiet at right st))
+    world.AcceptsDeedBy g c.args.actor kept.state
+    (deed_result g at kept.state (deeds.ends c.args.actor x)) c.end_form.new.self (end_answer_view y)) in
+    of-actor g c.args.actor kept.state _ c.end_form.new.self end_answer_view _ c.end_form.result
+    (subst D is (c.end_form.ensures.done g kept.state at right st))
     (serves-all-still old.refs at _ s.refs serves
-    (ends-reached g kept.quiet at c.args.actor (ending_view e))))
+    (ends-reached g kept.state at c.args.actor (ending_view e))))
     (left-so c.in-Some.is (c.get_mut.follows.holds c.end_form.new.self)).put
     (left-so c.in-Some.is (c.get_mut.follows.holds c.end_form.new.self)).others
 
@@ -69,10 +69,10 @@ returns-clause-refused c = λ g w right s.
     (λ kept st serves.
     let at = store_in w.around t kept.mine in
     let D : EndingData → Type 0 = λ x. IfErr c.end_form.result
-    (world.RefusesDeed g kept.quiet at (deed_result g at kept.quiet (deeds.ends c.args.actor x))
+    (world.RefusesDeed g kept.state at (deed_result g at kept.state (deeds.ends c.args.actor x))
     c.end_form.new.self) in
     err-with _ _ c.end_form.result
-    (subst D is (c.end_form.ensures.refused g kept.quiet at right st)) serves)
+    (subst D is (c.end_form.ensures.refused g kept.state at right st)) serves)
     (left-so c.in-Some.is (c.get_mut.follows.holds c.end_form.new.self)).put
     (left-so c.in-Some.is (c.get_mut.follows.holds c.end_form.new.self)).others
 
@@ -94,5 +94,5 @@ returns-clause-no_memory c = λ g w right s none.
     (λ kept st serves.
     let at = store_in w.around t kept.mine in
     let D : EndingData → Type 0 = λ x.
-    is_accepted (deed_result g at kept.quiet (deeds.ends c.args.actor x)).outcome ≡ true in
-    subst D is (c.end_form.ensures.no_memory g kept.quiet at right st none))
+    is_accepted (deed_result g at kept.state (deeds.ends c.args.actor x)).outcome ≡ true in
+    subst D is (c.end_form.ensures.no_memory g kept.state at right st none))

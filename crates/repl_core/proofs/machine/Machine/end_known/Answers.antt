@@ -27,13 +27,13 @@ returns-clause-done c = λ g w right s known.
     c.in-Some.tenant.now c.finish.new.self end_answer_view c.finish.result s there
     (λ kept st serves.
     let at = store_in w.around t kept.mine in
-    let own : IsEndOfForm (running_in c.args.actor kept.quiet) (finished_view c.end.result.now) (ending_view e) =
-    subst (λ f. IsEndOfForm (running_in c.args.actor kept.quiet) (finished_view f) (ending_view e)) (sym c.end.ensures)
-    (end-of-kept g w t c.args.actor old c.in-Some.tenant.now (ending_view e) s there known kept.quiet at st) in
-    of-actor g c.args.actor kept.quiet _ c.finish.new.self end_answer_view _ c.finish.result
-    (c.finish.ensures.done g kept.quiet at (ending_view e) right st own)
+    let own : IsEndOfForm (running_in c.args.actor kept.state) (finished_view c.end.result.now) (ending_view e) =
+    subst (λ f. IsEndOfForm (running_in c.args.actor kept.state) (finished_view f) (ending_view e)) (sym c.end.ensures)
+    (end-of-kept g w t c.args.actor old c.in-Some.tenant.now (ending_view e) s there known kept.state at st) in
+    of-actor g c.args.actor kept.state _ c.finish.new.self end_answer_view _ c.finish.result
+    (c.finish.ensures.done g kept.state at (ending_view e) right st own)
     (serves-all-still old.refs at _ s.refs serves
-    (ends-reached g kept.quiet at c.args.actor (ending_view e))))
+    (ends-reached g kept.state at c.args.actor (ending_view e))))
     (left-so c.in-Some.is (c.get_mut.follows.holds c.finish.new.self)).put
     (left-so c.in-Some.is (c.get_mut.follows.holds c.finish.new.self)).others
 
@@ -47,10 +47,10 @@ returns-clause-refused c = λ g w right s known.
     c.in-Some.tenant.now c.finish.new.self c.finish.result s there
     (λ kept st serves.
     let at = store_in w.around t kept.mine in
-    let own : IsEndOfForm (running_in c.args.actor kept.quiet) (finished_view c.end.result.now) (ending_view e) =
-    subst (λ f. IsEndOfForm (running_in c.args.actor kept.quiet) (finished_view f) (ending_view e)) (sym c.end.ensures)
-    (end-of-kept g w t c.args.actor old c.in-Some.tenant.now (ending_view e) s there known kept.quiet at st) in
-    err-with _ _ c.finish.result (c.finish.ensures.refused g kept.quiet at (ending_view e) right st own) serves)
+    let own : IsEndOfForm (running_in c.args.actor kept.state) (finished_view c.end.result.now) (ending_view e) =
+    subst (λ f. IsEndOfForm (running_in c.args.actor kept.state) (finished_view f) (ending_view e)) (sym c.end.ensures)
+    (end-of-kept g w t c.args.actor old c.in-Some.tenant.now (ending_view e) s there known kept.state at st) in
+    err-with _ _ c.finish.result (c.finish.ensures.refused g kept.state at (ending_view e) right st own) serves)
     (left-so c.in-Some.is (c.get_mut.follows.holds c.finish.new.self)).put
     (left-so c.in-Some.is (c.get_mut.follows.holds c.finish.new.self)).others
 
@@ -63,7 +63,7 @@ returns-clause-no_memory c = λ g w right s known none.
     accepts-so g w t (deeds.ends c.args.actor (ending_view e)) old c.in-Some.tenant.now s there
     (λ kept st serves.
     let at = store_in w.around t kept.mine in
-    let own : IsEndOfForm (running_in c.args.actor kept.quiet) (finished_view c.end.result.now) (ending_view e) =
-    subst (λ f. IsEndOfForm (running_in c.args.actor kept.quiet) (finished_view f) (ending_view e)) (sym c.end.ensures)
-    (end-of-kept g w t c.args.actor old c.in-Some.tenant.now (ending_view e) s there known kept.quiet at st) in
-    c.finish.ensures.no_memory g kept.quiet at (ending_view e) right st own none)
+    let own : IsEndOfForm (running_in c.args.actor kept.state) (finished_view c.end.result.now) (ending_view e) =
+    subst (λ f. IsEndOfForm (running_in c.args.actor kept.state) (finished_view f) (ending_view e)) (sym c.end.ensures)
+    (end-of-kept g w t c.args.actor old c.in-Some.tenant.now (ending_view e) s there known kept.state at st) in
+    c.finish.ensures.no_memory g kept.state at (ending_view e) right st own none)

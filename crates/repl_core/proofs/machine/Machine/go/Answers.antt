@@ -1,5 +1,5 @@
 use Rattle.std.proofs.Common.{◌∙◌, sym}
-use Rattle.repl_core.specs.Inside.Seen.{is_kept}
+use Rattle.repl_core.specs.Inside.Seen.{keeps_walk}
 use Rattle.repl_core.proofs.Honest.{goes-so, halts-so, halts-none, accepts-goes}
 use Rattle.repl_core.proofs.Left.{left-less, left-kept, left-none, some-waits, some-left}
 use Rattle.repl_core.proofs.Places.{left-so}
@@ -54,7 +54,7 @@ pub returns-clause-no_memory : goal.returns-clause-no_memory
 returns-clause-no_memory c = λ g w right ground s walked room none.
     let a = c.args.actor in
     accepts-goes g w c.args.number a c.args.self.now c.in-Some.tenant.now c.args.walks.now
-    (is_kept c.args.walks.now c.go.new.self a) s right ground
+    (keeps_walk c.args.walks.now c.go.new.self a) s right ground
     (sym c.in-Some.ensures.value) walked
     (λ l st. c.go.ensures.no_memory g l s.refs right st none)
 

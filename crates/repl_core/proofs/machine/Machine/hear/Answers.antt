@@ -23,9 +23,9 @@ returns-clause-done c = λ g w right s.
     (λ n. messages_heard n) c.hear.result s (sym c.in-Some.ensures.value)
     (λ kept st serves.
     let at = store_in w.around t kept.mine in
-    ok-with _ _ c.hear.result (c.hear.ensures.done g kept.quiet at right st)
+    ok-with _ _ c.hear.result (c.hear.ensures.done g kept.state at right st)
     (serves-all-still old.refs at _ s.refs serves
-    (hears-reached g kept.quiet at c.args.piece.now)))
+    (hears-reached g kept.state at c.args.piece.now)))
     (left-so c.in-Some.is (c.get_mut.follows.holds c.hear.new.self)).put
     (left-so c.in-Some.is (c.get_mut.follows.holds c.hear.new.self)).others
 
@@ -38,7 +38,7 @@ returns-clause-refused c = λ g w right s.
     c.hear.result s (sym c.in-Some.ensures.value)
     (λ kept st serves.
     err-with _ _ c.hear.result
-    (c.hear.ensures.refused g kept.quiet (store_in w.around t kept.mine) right st) serves)
+    (c.hear.ensures.refused g kept.state (store_in w.around t kept.mine) right st) serves)
     (left-so c.in-Some.is (c.get_mut.follows.holds c.hear.new.self)).put
     (left-so c.in-Some.is (c.get_mut.follows.holds c.hear.new.self)).others
 
@@ -60,5 +60,5 @@ pub returns-clause-no_memory : goal.returns-clause-no_memory
 returns-clause-no_memory c = λ g w right s none.
     let t = c.args.number in
     accepts-so g w t (deeds.hears c.args.piece.now) c.args.self.now c.in-Some.tenant.now s (sym c.in-Some.ensures.value)
-    (λ kept st serves. c.hear.ensures.no_memory g kept.quiet (store_in w.around t kept.mine)
+    (λ kept st serves. c.hear.ensures.no_memory g kept.state (store_in w.around t kept.mine)
     right st none)

@@ -22,11 +22,11 @@ returns-clause-done c = λ g w right s.
     (λ x. start_answer_view x.given) c.start_copied.result s (sym c.in-Some.ensures.value)
     (λ kept st serves.
     let at = store_in w.around t kept.mine in
-    of-actor g c.args.actor kept.quiet _ c.start_copied.new.self (λ x. start_answer_view x.given) _
+    of-actor g c.args.actor kept.state _ c.start_copied.new.self (λ x. start_answer_view x.given) _
     c.start_copied.result
-    (c.start_copied.ensures.done g kept.quiet at right st)
+    (c.start_copied.ensures.done g kept.state at right st)
     (serves-all-still old.refs at _ s.refs serves
-    (starts-reached g kept.quiet at c.args.actor)))
+    (starts-reached g kept.state at c.args.actor)))
     (left-so c.in-Some.is (c.get_mut.follows.holds c.start_copied.new.self)).put
     (left-so c.in-Some.is (c.get_mut.follows.holds c.start_copied.new.self)).others
 
@@ -39,7 +39,7 @@ returns-clause-refused c = λ g w right s.
     c.start_copied.result s (sym c.in-Some.ensures.value)
     (λ kept st serves.
     err-with _ _ c.start_copied.result
-    (c.start_copied.ensures.refused g kept.quiet (store_in w.around t kept.mine) right st) serves)
+    (c.start_copied.ensures.refused g kept.state (store_in w.around t kept.mine) right st) serves)
     (left-so c.in-Some.is (c.get_mut.follows.holds c.start_copied.new.self)).put
     (left-so c.in-Some.is (c.get_mut.follows.holds c.start_copied.new.self)).others
 
@@ -47,5 +47,5 @@ pub returns-clause-no_memory : goal.returns-clause-no_memory
 returns-clause-no_memory c = λ g w right s none.
     let t = c.args.number in
     accepts-so g w t (deeds.starts c.args.actor) c.args.self.now c.in-Some.tenant.now s (sym c.in-Some.ensures.value)
-    (λ kept st serves. c.start_copied.ensures.no_memory g kept.quiet (store_in w.around t kept.mine)
+    (λ kept st serves. c.start_copied.ensures.no_memory g kept.state (store_in w.around t kept.mine)
     right st none)

@@ -24,11 +24,11 @@ returns-in_err-answer-clause-refused c = λ g l r w right s at.
     c.in-Some-Asks.is c.in-Some-Asks.field-0-is in
     let same = asks-same v w (some-same _ _ (sym kept ∙ at)) in
     let asked = ap ask_view c.ask.ensures ∙ ap (λ x. ask_view x.ask) same in
-    let P : AskData → Type 0 = λ x. world.RefusesDeed g l.quiet l.store
+    let P : AskData → Type 0 = λ x. world.RefusesDeed g l.state l.store
     (comes_to g l (deeds.asks_for a x)) c.answer.new.self c.in_err-answer.field-0.0
     × TableServes c.answer.new.refs l.store r in
     let told = subst P asked
-    (c.in_err-answer.ensures.refused g l.quiet l.store r right s.tenant s.serves) in
+    (c.in_err-answer.ensures.refused g l.state l.store r right s.tenant s.serves) in
     refused-parts g l r (deeds.asks_for a (ask_view w.ask)) old c.answer.new.self
     c.answer.new.refs c.in_err-answer.field-0.0 c.from_residual.result s
     c.from_residual.ensures.1 told.0 told.1
@@ -42,14 +42,14 @@ returns-in-Answer-clause-done c = λ g l r run w right s runs at.
     c.in-Some-Asks.is c.in-Some-Asks.field-0-is in
     let same = asks-same v w (some-same _ _ (sym kept ∙ at)) in
     let asked = ap ask_view c.ask.ensures ∙ ap (λ x. ask_view x.ask) same in
-    let P : AskData → Type 0 = λ x. world.AcceptsDeedBy g a l.quiet
+    let P : AskData → Type 0 = λ x. world.AcceptsDeedBy g a l.state
     (comes_to g l (deeds.asks_for a x)) c.answer.new.self (ask_answer_view c.in_ok-answer.field-0)
     × TableServes c.answer.new.refs (comes_to g l (deeds.asks_for a x)).store
     (refs_after (comes_to g l (deeds.asks_for a x)).store r) in
     let did = subst P asked
-    (c.in_ok-answer.ensures.done g l.quiet l.store r right s.tenant s.serves) in
+    (c.in_ok-answer.ensures.done g l.state l.store r right s.tenant s.serves) in
     let d = comes_to g l (deeds.asks_for a (ask_view w.ask)) in
-    let Q : AskAnswer → Type 0 = λ x. world.AcceptsDeedBy g a l.quiet d c.answer.new.self (ask_answer_view x) in
+    let Q : AskAnswer → Type 0 = λ x. world.AcceptsDeedBy g a l.state d c.answer.new.self (ask_answer_view x) in
     does-resumed g l r a old (parts c.answer.new.self c.answer.new.refs c.resume.new.self)
     (ask_view w.ask) (answer_view c.in-Answer.answer) run s runs (subst Q c.in-Answer.is did.0)
     did.1
@@ -65,12 +65,12 @@ returns-in-Interrupted-clause-done c = λ g l r run w right s runs at.
     c.in-Some-Asks.is c.in-Some-Asks.field-0-is in
     let same = asks-same v w (some-same _ _ (sym kept ∙ at)) in
     let asked = ap ask_view c.ask.ensures ∙ ap (λ x. ask_view x.ask) same in
-    let P : AskData → Type 0 = λ x. world.AcceptsDeedBy g a l.quiet
+    let P : AskData → Type 0 = λ x. world.AcceptsDeedBy g a l.state
     (comes_to g l (deeds.asks_for a x)) c.answer.new.self (ask_answer_view c.in_ok-answer.field-0)
     × TableServes c.answer.new.refs (comes_to g l (deeds.asks_for a x)).store
     (refs_after (comes_to g l (deeds.asks_for a x)).store r) in
     let did = subst P asked
-    (c.in_ok-answer.ensures.done g l.quiet l.store r right s.tenant s.serves) in
+    (c.in_ok-answer.ensures.done g l.state l.store r right s.tenant s.serves) in
     does-removed g l r (deeds.asks_for a (ask_view w.ask)) a old
     (parts c.answer.new.self c.answer.new.refs c.remove.new.self) _ s did.0 did.1
     c.remove.ensures.gone c.remove.ensures.others
@@ -87,5 +87,5 @@ returns-in_err-answer-clause-no_memory c = λ g l r w s at none.
     c.from_residual.ensures.1 none in
     let P : AskData → Type 0 = λ x.
     is_accepted (comes_to g l (deeds.asks_for a x)).outcome ≡ true in
-    subst P asked (c.in_err-answer.ensures.no_memory g l.quiet l.store r s.tenant s.serves
+    subst P asked (c.in_err-answer.ensures.no_memory g l.state l.store r s.tenant s.serves
     (ap (λ e. Err e) why))

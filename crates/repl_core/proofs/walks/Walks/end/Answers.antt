@@ -4,7 +4,7 @@ use Rattle.repl_walker.specs.declared.waiting.Progress.{Progress}
 use Rattle.server_rules.specs.Plan as deeds
 use Rattle.tenant_asks.proofs.Remembering.{wanted-memory}
 use Rattle.repl_core.specs.Inside.Standing.{parts}
-use Rattle.repl_core.specs.Inside.Walked.{ending_of}
+use Rattle.repl_core.specs.Inside.Walked.{walk_ended}
 use Rattle.repl_core.proofs.WalkSteps.{ends-same, at-so, some-same}
 use Rattle.repl_core.proofs.Ending.{end-of-form}
 use Rattle.repl_core.proofs.Steps.{does-removed, refused-parts, serves-same}
@@ -19,11 +19,11 @@ returns-in_err-finish-clause-refused c = λ g l r run e right s runs at.
     let kept = at-so (λ p. p.now) c.get.result _ (Progress.Ends d) _ c.get.ensures
     c.in-Some-Ends.is c.in-Some-Ends.field-0-is in
     let same = ends-same d e (some-same _ _ (sym kept ∙ at)) in
-    let own = end-of-form a l.quiet run e _ runs
+    let own = end-of-form a l.state run e _ runs
     (ap finished_view c.end.ensures ∙ ap (λ x. finished_view x.finished) same) in
-    refused-parts g l r (deeds.ends a (ending_of run e)) old c.finish.new.self c.args.refs.now
+    refused-parts g l r (deeds.ends a (walk_ended run e)) old c.finish.new.self c.args.refs.now
     c.in_err-finish.field-0.0 c.from_residual.result s c.from_residual.ensures.1
-    (c.in_err-finish.ensures.refused g l.quiet l.store (ending_of run e) right s.tenant own) s.serves
+    (c.in_err-finish.ensures.refused g l.state l.store (walk_ended run e) right s.tenant own) s.serves
 
 pub returns-clause-done : goal.returns-clause-done
 returns-clause-done c = λ g l r run e right s runs at.
@@ -33,13 +33,13 @@ returns-clause-done c = λ g l r run e right s runs at.
     let kept = at-so (λ p. p.now) c.get.result _ (Progress.Ends d) _ c.get.ensures
     c.in-Some-Ends.is c.in-Some-Ends.field-0-is in
     let same = ends-same d e (some-same _ _ (sym kept ∙ at)) in
-    let own = end-of-form a l.quiet run e _ runs
+    let own = end-of-form a l.state run e _ runs
     (ap finished_view c.end.ensures ∙ ap (λ x. finished_view x.finished) same) in
-    does-removed g l r (deeds.ends a (ending_of run e)) a old
+    does-removed g l r (deeds.ends a (walk_ended run e)) a old
     (parts c.finish.new.self c.args.refs.now c.remove.new.self) _ s
-    (c.in_ok-finish.ensures.done g l.quiet l.store (ending_of run e) right s.tenant own)
-    (serves-same g l r (deeds.ends a (ending_of run e)) old s
-    (ends-reached g l.quiet l.store a (ending_of run e)))
+    (c.in_ok-finish.ensures.done g l.state l.store (walk_ended run e) right s.tenant own)
+    (serves-same g l r (deeds.ends a (walk_ended run e)) old s
+    (ends-reached g l.state l.store a (walk_ended run e)))
     c.remove.ensures.gone c.remove.ensures.others
 
 pub returns-in_err-finish-clause-no_memory : goal.returns-in_err-finish-clause-no_memory
@@ -48,9 +48,9 @@ returns-in_err-finish-clause-no_memory c = λ g l r run e right s runs at none.
     let kept = at-so (λ p. p.now) c.get.result _ (Progress.Ends d) _ c.get.ensures
     c.in-Some-Ends.is c.in-Some-Ends.field-0-is in
     let same = ends-same d e (some-same _ _ (sym kept ∙ at)) in
-    let own = end-of-form c.args.actor l.quiet run e _ runs
+    let own = end-of-form c.args.actor l.state run e _ runs
     (ap finished_view c.end.ensures ∙ ap (λ x. finished_view x.finished) same) in
     let why = wanted-memory c.in_err-finish.field-0.0 c.from_residual.result
     c.from_residual.ensures.1 none in
-    c.in_err-finish.ensures.no_memory g l.quiet l.store (ending_of run e) right s.tenant own
+    c.in_err-finish.ensures.no_memory g l.state l.store (walk_ended run e) right s.tenant own
     (ap (λ x. Err x) why)

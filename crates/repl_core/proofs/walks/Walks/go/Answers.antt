@@ -6,7 +6,7 @@ use Rattle.server_rules.specs.Honest.{honest_deed}
 use Rattle.tenant_parts.specs.View.{run_view}
 use Rattle.tenant_asks.specs.Acting.{is_accepted}
 use Rattle.repl_core.specs.Inside.Standing.{parts, comes_to}
-use Rattle.repl_core.specs.Inside.Walked.{ending_of}
+use Rattle.repl_core.specs.Inside.Walked.{walk_ended}
 use Rattle.repl_core.proofs.WalkDeeds.{honest_deed-starts, honest_deed-asks, honest_deed-ends}
 use Rattle.repl_core.proofs.Memory.{refused-worn, unkept-unseen}
 use Rattle.repl_core.proofs.WalkSteps.{at-so}
@@ -16,45 +16,45 @@ use Rattle.repl_core.proofs.walks.Walks.go.Goals as goal
 pub returns-in_default-clause-done : goal.returns-in_default-clause-done
 returns-in_default-clause-done c = λ g l r right s.
     let a = c.args.actor in
-    let none = sym (c.running.ensures g l.quiet l.store s.tenant)
+    let none = sym (c.running.ensures g l.state l.store s.tenant)
     ∙ ap (option_map (λ it. run_view it.now)) c.in_default.is in
-    does-as g l r (deeds.starts a) (honest_deed g a (Some (Some l.quiet)))
+    does-as g l r (deeds.starts a) (honest_deed g a (Some (Some l.state)))
     (parts c.begin.new.tenant c.args.refs.now c.begin.new.self) c.begin.result
-    (honest_deed-starts g a l.quiet none) (c.begin.ensures.done g l r right s)
+    (honest_deed-starts g a l.state none) (c.begin.ensures.done g l r right s)
 
 pub returns-in_default-clause-refused : goal.returns-in_default-clause-refused
 returns-in_default-clause-refused c = λ g l r right s.
     let a = c.args.actor in
-    let none = sym (c.running.ensures g l.quiet l.store s.tenant)
+    let none = sym (c.running.ensures g l.state l.store s.tenant)
     ∙ ap (option_map (λ it. run_view it.now)) c.in_default.is in
-    refuses-as g l r (deeds.starts a) (honest_deed g a (Some (Some l.quiet)))
+    refuses-as g l r (deeds.starts a) (honest_deed g a (Some (Some l.state)))
     (parts c.begin.new.tenant c.args.refs.now c.begin.new.self) c.begin.result
-    (honest_deed-starts g a l.quiet none) (c.begin.ensures.refused g l r right s)
+    (honest_deed-starts g a l.state none) (c.begin.ensures.refused g l r right s)
 
 pub returns-in_err-find-clause-refused : goal.returns-in_err-find-clause-refused
 returns-in_err-find-clause-refused c = λ g l r right s.
-    let runs = sym (c.running.ensures g l.quiet l.store s.tenant)
+    let runs = sym (c.running.ensures g l.state l.store s.tenant)
     ∙ ap (option_map (λ it. run_view it.now)) c.in-Some.is in
-    refused-memory g l r (honest_deed g c.args.actor (Some (Some l.quiet)))
+    refused-memory g l r (honest_deed g c.args.actor (Some (Some l.state)))
     (parts c.args.tenant.now c.args.refs.now c.find.new.self) c.from_residual.result
     c.from_residual.ensures.1
     (stands-found g l r c.args.tenant.now c.args.refs.now c.args.self.now c.find.new.self s
-    (c.find.ensures.walked l.quiet runs))
+    (c.find.ensures.walked l.state runs))
 
 pub returns-in-Some-Asks-clause-done : goal.returns-in-Some-Asks-clause-done
 returns-in-Some-Asks-clause-done c = λ g l r right s.
     let a = c.args.actor in
     let w = c.in-Some-Asks._walk in
     let run = run_view c.in-Some.run'.now in
-    let runs = sym (c.running.ensures g l.quiet l.store s.tenant)
+    let runs = sym (c.running.ensures g l.state l.store s.tenant)
     ∙ ap (option_map (λ it. run_view it.now)) c.in-Some.is in
     let found = stands-found g l r c.args.tenant.now c.args.refs.now c.args.self.now
-    c.find.new.self s (c.find.ensures.walked l.quiet runs) in
+    c.find.new.self s (c.find.ensures.walked l.state runs) in
     let at = at-so (λ p. p.now) c.get.result _ (Progress.Asks w) _ c.get.ensures
     c.in-Some-Asks.is c.in-Some-Asks.field-0-is in
-    does-as g l r (deeds.asks_for a (ask_view w.ask)) (honest_deed g a (Some (Some l.quiet)))
+    does-as g l r (deeds.asks_for a (ask_view w.ask)) (honest_deed g a (Some (Some l.state)))
     (parts c.ask.new.tenant c.ask.new.refs c.ask.new.self) c.ask.result
-    (honest_deed-asks g a l.quiet run w s.ground runs (found.walked a run (Progress.Asks w) runs at))
+    (honest_deed-asks g a l.state run w s.ground runs (found.walked a run (Progress.Asks w) runs at))
     (c.ask.ensures.done g l r run w right found runs at)
 
 pub returns-in-Some-Asks-clause-refused : goal.returns-in-Some-Asks-clause-refused
@@ -62,15 +62,15 @@ returns-in-Some-Asks-clause-refused c = λ g l r right s.
     let a = c.args.actor in
     let w = c.in-Some-Asks._walk in
     let run = run_view c.in-Some.run'.now in
-    let runs = sym (c.running.ensures g l.quiet l.store s.tenant)
+    let runs = sym (c.running.ensures g l.state l.store s.tenant)
     ∙ ap (option_map (λ it. run_view it.now)) c.in-Some.is in
     let found = stands-found g l r c.args.tenant.now c.args.refs.now c.args.self.now
-    c.find.new.self s (c.find.ensures.walked l.quiet runs) in
+    c.find.new.self s (c.find.ensures.walked l.state runs) in
     let at = at-so (λ p. p.now) c.get.result _ (Progress.Asks w) _ c.get.ensures
     c.in-Some-Asks.is c.in-Some-Asks.field-0-is in
-    refuses-as g l r (deeds.asks_for a (ask_view w.ask)) (honest_deed g a (Some (Some l.quiet)))
+    refuses-as g l r (deeds.asks_for a (ask_view w.ask)) (honest_deed g a (Some (Some l.state)))
     (parts c.ask.new.tenant c.ask.new.refs c.ask.new.self) c.ask.result
-    (honest_deed-asks g a l.quiet run w s.ground runs (found.walked a run (Progress.Asks w) runs at))
+    (honest_deed-asks g a l.state run w s.ground runs (found.walked a run (Progress.Asks w) runs at))
     (c.ask.ensures.refused g l r w right found at)
 
 pub returns-in-Some-Ends-clause-done : goal.returns-in-Some-Ends-clause-done
@@ -78,15 +78,15 @@ returns-in-Some-Ends-clause-done c = λ g l r right s.
     let a = c.args.actor in
     let e = c.in-Some-Ends._ending in
     let run = run_view c.in-Some.run'.now in
-    let runs = sym (c.running.ensures g l.quiet l.store s.tenant)
+    let runs = sym (c.running.ensures g l.state l.store s.tenant)
     ∙ ap (option_map (λ it. run_view it.now)) c.in-Some.is in
     let found = stands-found g l r c.args.tenant.now c.args.refs.now c.args.self.now
-    c.find.new.self s (c.find.ensures.walked l.quiet runs) in
+    c.find.new.self s (c.find.ensures.walked l.state runs) in
     let at = at-so (λ p. p.now) c.get.result _ (Progress.Ends e) _ c.get.ensures
     c.in-Some-Ends.is c.in-Some-Ends.field-0-is in
-    does-as g l r (deeds.ends a (ending_of run e)) (honest_deed g a (Some (Some l.quiet)))
+    does-as g l r (deeds.ends a (walk_ended run e)) (honest_deed g a (Some (Some l.state)))
     (parts c.end.new.tenant c.args.refs.now c.end.new.self) c.end.result
-    (honest_deed-ends g a l.quiet run e s.ground runs (found.walked a run (Progress.Ends e) runs at))
+    (honest_deed-ends g a l.state run e s.ground runs (found.walked a run (Progress.Ends e) runs at))
     (c.end.ensures.done g l r run e right found runs at)
 
 pub returns-in-Some-Ends-clause-refused : goal.returns-in-Some-Ends-clause-refused
@@ -94,15 +94,15 @@ returns-in-Some-Ends-clause-refused c = λ g l r right s.
     let a = c.args.actor in
     let e = c.in-Some-Ends._ending in
     let run = run_view c.in-Some.run'.now in
-    let runs = sym (c.running.ensures g l.quiet l.store s.tenant)
+    let runs = sym (c.running.ensures g l.state l.store s.tenant)
     ∙ ap (option_map (λ it. run_view it.now)) c.in-Some.is in
     let found = stands-found g l r c.args.tenant.now c.args.refs.now c.args.self.now
-    c.find.new.self s (c.find.ensures.walked l.quiet runs) in
+    c.find.new.self s (c.find.ensures.walked l.state runs) in
     let at = at-so (λ p. p.now) c.get.result _ (Progress.Ends e) _ c.get.ensures
     c.in-Some-Ends.is c.in-Some-Ends.field-0-is in
-    refuses-as g l r (deeds.ends a (ending_of run e)) (honest_deed g a (Some (Some l.quiet)))
+    refuses-as g l r (deeds.ends a (walk_ended run e)) (honest_deed g a (Some (Some l.state)))
     (parts c.end.new.tenant c.args.refs.now c.end.new.self) c.end.result
-    (honest_deed-ends g a l.quiet run e s.ground runs (found.walked a run (Progress.Ends e) runs at))
+    (honest_deed-ends g a l.state run e s.ground runs (found.walked a run (Progress.Ends e) runs at))
     (c.end.ensures.refused g l r run e right found runs at)
 
 pub returns-then-is_worn-clause-refused : goal.returns-then-is_worn-clause-refused
@@ -112,17 +112,17 @@ returns-then-is_worn-clause-refused c = λ g l r right s.
 
 pub returns-in_default-clause-no_memory : goal.returns-in_default-clause-no_memory
 returns-in_default-clause-no_memory c = λ g l r right s none seen.
-    let runs = sym (c.running.ensures g l.quiet l.store s.tenant)
+    let runs = sym (c.running.ensures g l.state l.store s.tenant)
     ∙ ap (option_map (λ it. run_view it.now)) c.in_default.is in
     sym (ap (λ d. is_accepted (comes_to g l d).outcome)
-    (honest_deed-starts g c.args.actor l.quiet runs))
+    (honest_deed-starts g c.args.actor l.state runs))
     ∙ c.begin.ensures.no_memory g l r right s none
 
 pub returns-in_err-find-clause-no_memory : goal.returns-in_err-find-clause-no_memory
 returns-in_err-find-clause-no_memory c = λ g l r right s none seen.
-    let runs = sym (c.running.ensures g l.quiet l.store s.tenant)
+    let runs = sym (c.running.ensures g l.state l.store s.tenant)
     ∙ ap (option_map (λ it. run_view it.now)) c.in-Some.is in
-    absurd (unkept-unseen g c.args.actor l.quiet (run_view c.in-Some.run'.now) c.args.self.now
+    absurd (unkept-unseen g c.args.actor l.state (run_view c.in-Some.run'.now) c.args.self.now
     c.find.new.self runs c.in_err-find.ensures.lost (c.in_err-find.ensures.stays c.args.actor) seen)
 
 pub returns-in-Some-Asks-clause-no_memory : goal.returns-in-Some-Asks-clause-no_memory
@@ -130,13 +130,13 @@ returns-in-Some-Asks-clause-no_memory c = λ g l r right s none seen.
     let a = c.args.actor in
     let w = c.in-Some-Asks._walk in
     let run = run_view c.in-Some.run'.now in
-    let runs = sym (c.running.ensures g l.quiet l.store s.tenant)
+    let runs = sym (c.running.ensures g l.state l.store s.tenant)
     ∙ ap (option_map (λ it. run_view it.now)) c.in-Some.is in
     let found = stands-found g l r c.args.tenant.now c.args.refs.now c.args.self.now
-    c.find.new.self s (c.find.ensures.walked l.quiet runs) in
+    c.find.new.self s (c.find.ensures.walked l.state runs) in
     let at = at-so (λ p. p.now) c.get.result _ (Progress.Asks w) _ c.get.ensures
     c.in-Some-Asks.is c.in-Some-Asks.field-0-is in
-    let same = honest_deed-asks g a l.quiet run w s.ground runs
+    let same = honest_deed-asks g a l.state run w s.ground runs
     (found.walked a run (Progress.Asks w) runs at) in
     sym (ap (λ d. is_accepted (comes_to g l d).outcome) same)
     ∙ c.ask.ensures.no_memory g l r w found at none
@@ -146,12 +146,12 @@ returns-in-Some-Ends-clause-no_memory c = λ g l r right s none seen.
     let a = c.args.actor in
     let e = c.in-Some-Ends._ending in
     let run = run_view c.in-Some.run'.now in
-    let runs = sym (c.running.ensures g l.quiet l.store s.tenant)
+    let runs = sym (c.running.ensures g l.state l.store s.tenant)
     ∙ ap (option_map (λ it. run_view it.now)) c.in-Some.is in
     let found = stands-found g l r c.args.tenant.now c.args.refs.now c.args.self.now
-    c.find.new.self s (c.find.ensures.walked l.quiet runs) in
+    c.find.new.self s (c.find.ensures.walked l.state runs) in
     let at = at-so (λ p. p.now) c.get.result _ (Progress.Ends e) _ c.get.ensures
     c.in-Some-Ends.is c.in-Some-Ends.field-0-is in
-    sym (ap (λ d. is_accepted (comes_to g l d).outcome) (honest_deed-ends g a l.quiet run e
+    sym (ap (λ d. is_accepted (comes_to g l d).outcome) (honest_deed-ends g a l.state run e
     s.ground runs (found.walked a run (Progress.Ends e) runs at)))
     ∙ c.end.ensures.no_memory g l r run e right found runs at none

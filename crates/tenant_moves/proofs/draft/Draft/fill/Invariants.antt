@@ -2,7 +2,7 @@ use Rattle.std.proofs.Common.{◌≡◌, ℕ, List, map, deque_len}
 use Rattle.bencode_wire.specs.Inside.View.{tree_view}
 use Rattle.server_rules.specs.Ground.{Ground}
 use Rattle.server_rules.specs.Hearing.{with_messages}
-use Rattle.server_rules.specs.Tenant.{Quiet}
+use Rattle.server_rules.specs.Tenant.{TenantState}
 use Rattle.tenant_moves.specs.Scene.{scene, Drafts, IsKept}
 use Rattle.tenant_moves.proofs.draft.Draft.fill.Given as goal
 
@@ -13,8 +13,8 @@ invariant-loop-message l =
     let now = scene l.self l.sessions l.actors in
     record {
       kept : IsKept old now;
-      heard : (g : Ground) (t : ℕ) (q : Quiet) (waiting : List (List ℕ)) → Drafts g t q waiting old
-          → (r : Quiet) × Drafts g t r waiting now
+      heard : (g : Ground) (t : ℕ) (q : TenantState) (waiting : List (List ℕ)) → Drafts g t q waiting old
+          → (r : TenantState) × Drafts g t r waiting now
           × (with_messages g t (map tree_view l.messages.items) r ≡ with_messages g t (map tree_view l.fn.messages.items) q);
     }
 

@@ -16,21 +16,21 @@ use std::alloc::AllocError;
 /// One answer, to be kept with its ask, to be given, and to be noted by whoever writes it down. What
 /// can fail of its making is over before anything changes.
 #[derive(Drop)]
-pub struct Thrice {
+pub struct AnswerCopies {
     pub kept: Answer,
     pub given: Answer,
     pub noted: Answer,
 }
 
-impl Thrice {
-    ghost use Rattle.tenant_parts.specs.Thrice.{thrice_view, IsThrice};
+impl AnswerCopies {
+    ghost use Rattle.tenant_parts.specs.AnswerCopies.{copies_view, AreAllSame};
 
     /// What is asked is done.
-    pub fn done() -> Thrice
-        ensures view { thrice_view result ≡ done }
-        ensures thrice { IsThrice result }
+    pub fn done() -> AnswerCopies
+        ensures view { copies_view result ≡ done }
+        ensures copies { AreAllSame result }
     {
-        Thrice {
+        AnswerCopies {
             kept: Answer::Done,
             given: Answer::Done,
             noted: Answer::Done,
@@ -38,13 +38,13 @@ impl Thrice {
     }
 
     /// It fails only where 2^63 owners share a part of the answer.
-    pub fn of(answer: Answer) -> Result<Thrice, AllocError>
-        ensures view { IfOk result (λ it. thrice_view it ≡ answer_view answer) }
-        ensures thrice { IfOk result IsThrice }
+    pub fn of(answer: Answer) -> Result<AnswerCopies, AllocError>
+        ensures view { IfOk result (λ it. copies_view it ≡ answer_view answer) }
+        ensures copies { IfOk result AreAllSame }
     {
         let given = answer.copy()?;
         let noted = answer.copy()?;
-        Ok(Thrice {
+        Ok(AnswerCopies {
             kept: answer,
             given,
             noted,
@@ -52,11 +52,11 @@ impl Thrice {
     }
 
     /// It takes no memory.
-    pub fn of_atom(number: u64) -> Thrice
-        ensures view { thrice_view result ≡ value (atom number) }
-        ensures thrice { IsThrice result }
+    pub fn of_atom(number: u64) -> AnswerCopies
+        ensures view { copies_view result ≡ value (atom number) }
+        ensures copies { AreAllSame result }
     {
-        Thrice {
+        AnswerCopies {
             kept: Answer::Value(Value::Atom(number)),
             given: Answer::Value(Value::Atom(number)),
             noted: Answer::Value(Value::Atom(number)),
@@ -64,11 +64,11 @@ impl Thrice {
     }
 
     /// It takes no memory.
-    pub fn of_agent(number: u64) -> Thrice
-        ensures view { thrice_view result ≡ value (agent number) }
-        ensures thrice { IsThrice result }
+    pub fn of_agent(number: u64) -> AnswerCopies
+        ensures view { copies_view result ≡ value (agent number) }
+        ensures copies { AreAllSame result }
     {
-        Thrice {
+        AnswerCopies {
             kept: Answer::Value(Value::Agent(number)),
             given: Answer::Value(Value::Agent(number)),
             noted: Answer::Value(Value::Agent(number)),
@@ -76,11 +76,11 @@ impl Thrice {
     }
 
     /// What is asked is granted. It takes no memory.
-    pub fn granted() -> Thrice
-        ensures view { thrice_view result ≡ permission granted }
-        ensures thrice { IsThrice result }
+    pub fn granted() -> AnswerCopies
+        ensures view { copies_view result ≡ permission granted }
+        ensures copies { AreAllSame result }
     {
-        Thrice {
+        AnswerCopies {
             kept: Answer::Permission(Permission::Granted),
             given: Answer::Permission(Permission::Granted),
             noted: Answer::Permission(Permission::Granted),
@@ -88,93 +88,93 @@ impl Thrice {
     }
 
     /// It takes no memory.
-    pub fn of_boolean(holds: bool) -> Thrice
-        ensures view { thrice_view result ≡ value (boolean holds) }
-        ensures thrice { IsThrice result }
+    pub fn of_boolean(holds: bool) -> AnswerCopies
+        ensures view { copies_view result ≡ value (boolean holds) }
+        ensures copies { AreAllSame result }
     {
-        Thrice {
+        AnswerCopies {
             kept: Answer::Value(Value::Bool(holds)),
             given: Answer::Value(Value::Bool(holds)),
             noted: Answer::Value(Value::Bool(holds)),
         }
     }
 
-    pub(crate) fn of_name(name: RefName) -> Thrice
-        ensures view { thrice_view result ≡ value (ref (owner_view name.owner) name.number) }
-        ensures thrice { IsThrice result }
+    pub(crate) fn of_name(name: RefName) -> AnswerCopies
+        ensures view { copies_view result ≡ value (ref (owner_view name.owner) name.number) }
+        ensures copies { AreAllSame result }
     {
-        Thrice {
+        AnswerCopies {
             kept: Answer::Value(Value::Ref(name)),
             given: Answer::Value(Value::Ref(name)),
             noted: Answer::Value(Value::Ref(name)),
         }
     }
 
-    pub(crate) fn of_number(number: u64) -> Thrice
-        ensures view { number < 2 ^ 63 → thrice_view result ≡ number_told number }
-        ensures thrice { IsThrice result }
+    pub(crate) fn of_number(number: u64) -> AnswerCopies
+        ensures view { number < 2 ^ 63 → copies_view result ≡ number_told number }
+        ensures copies { AreAllSame result }
     {
         let number = i64::try_from(number).unwrap_or(i64::MAX);
-        Thrice {
+        AnswerCopies {
             kept: Answer::Value(Value::Int(number)),
             given: Answer::Value(Value::Int(number)),
             noted: Answer::Value(Value::Int(number)),
         }
     }
 
-    pub(crate) fn of_found(value: Value) -> Result<Thrice, AllocError>
-        ensures view { IfOk result (λ it. thrice_view it ≡ reading (found (view value))) }
-        ensures thrice { IfOk result IsThrice }
+    pub(crate) fn of_found(value: Value) -> Result<AnswerCopies, AllocError>
+        ensures view { IfOk result (λ it. copies_view it ≡ reading (found (view value))) }
+        ensures copies { IfOk result AreAllSame }
     {
         let given = copy(&value)?;
         let noted = copy(&value)?;
-        Ok(Thrice {
+        Ok(AnswerCopies {
             kept: Answer::Reading(Reading::Found(value)),
             given: Answer::Reading(Reading::Found(given)),
             noted: Answer::Reading(Reading::Found(noted)),
         })
     }
 
-    pub(crate) fn retry() -> Thrice
-        ensures view { thrice_view result ≡ reading retry }
-        ensures thrice { IsThrice result }
+    pub(crate) fn retry() -> AnswerCopies
+        ensures view { copies_view result ≡ reading retry }
+        ensures copies { AreAllSame result }
     {
-        Thrice {
+        AnswerCopies {
             kept: Answer::Reading(Reading::Retry),
             given: Answer::Reading(Reading::Retry),
             noted: Answer::Reading(Reading::Retry),
         }
     }
 
-    pub(crate) fn committed() -> Thrice
-        ensures view { thrice_view result ≡ verdict committed }
-        ensures thrice { IsThrice result }
+    pub(crate) fn committed() -> AnswerCopies
+        ensures view { copies_view result ≡ verdict committed }
+        ensures copies { AreAllSame result }
     {
-        Thrice {
+        AnswerCopies {
             kept: Answer::Verdict(Verdict::Committed),
             given: Answer::Verdict(Verdict::Committed),
             noted: Answer::Verdict(Verdict::Committed),
         }
     }
 
-    pub(crate) fn conflict() -> Thrice
-        ensures view { thrice_view result ≡ verdict conflict }
-        ensures thrice { IsThrice result }
+    pub(crate) fn conflict() -> AnswerCopies
+        ensures view { copies_view result ≡ verdict conflict }
+        ensures copies { AreAllSame result }
     {
-        Thrice {
+        AnswerCopies {
             kept: Answer::Verdict(Verdict::Conflict),
             given: Answer::Verdict(Verdict::Conflict),
             noted: Answer::Verdict(Verdict::Conflict),
         }
     }
 
-    pub(crate) fn faulted(fault: Fault) -> Result<Thrice, AllocError>
-        ensures view { IfOk result (λ it. thrice_view it ≡ verdict (faulted (failure_of fault))) }
-        ensures thrice { IfOk result IsThrice }
+    pub(crate) fn faulted(fault: Fault) -> Result<AnswerCopies, AllocError>
+        ensures view { IfOk result (λ it. copies_view it ≡ verdict (faulted (failure_of fault))) }
+        ensures copies { IfOk result AreAllSame }
     {
         let given = fault.copy()?;
         let noted = fault.copy()?;
-        Ok(Thrice {
+        Ok(AnswerCopies {
             kept: Answer::Verdict(Verdict::Faulted(fault)),
             given: Answer::Verdict(Verdict::Faulted(given)),
             noted: Answer::Verdict(Verdict::Faulted(noted)),

@@ -3,7 +3,7 @@ use Rattle.repl_sessions.specs.Inside.StateView.{state_view}
 use Rattle.server_rules.specs.Tenant.{with_state, with_replies}
 use Rattle.tenant_asks.specs.Memories.{Remembers}
 use Rattle.tenant_asks.proofs.Remembering.{replies-behind-state}
-use Rattle.tenant_asks.proofs.memory.Memory.post_with_state.Goals as goal
+use Rattle.tenant_asks.proofs.memory.Remembered.post_with_state.Goals as goal
 
 pub returns-clause-taken : goal.returns-clause-taken
 returns-clause-taken c = λ g t q m r replies remembered.

@@ -1,4 +1,4 @@
-use Rattle.tenant_world.proofs.starting.post_news.Goals as goal
+use Rattle.tenant_world.proofs.starting.post_effects.Goals as goal
 
 pub returns-clause-taken : goal.returns-clause-taken
 returns-clause-taken c = λ g t q m r tells.

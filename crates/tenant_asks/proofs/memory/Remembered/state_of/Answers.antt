@@ -2,7 +2,7 @@ use Rattle.std.proofs.Common.{◌∙◌, sym, ap, option_map, unwrap_or}
 use Rattle.std.proofs.lemmas.Result.{IfOk-weaker}
 use Rattle.repl_sessions.specs.Inside.StateView.{state_view}
 use Rattle.repl_sessions.specs.State.{fresh}
-use Rattle.tenant_asks.proofs.memory.Memory.state_of.Goals as goal
+use Rattle.tenant_asks.proofs.memory.Remembered.state_of.Goals as goal
 
 pub returns-in-Some : goal.returns-in-Some
 returns-in-Some c = λ g t q r.

@@ -3,7 +3,7 @@ use Rattle.repl_sessions.specs.Inside.StateView.{state_view}
 use Rattle.server_rules.specs.Tenant.{actor_state}
 use Rattle.server_rules.specs.Starting.{first_state}
 use Rattle.server_rules.specs.declared.actor.Actor.{Actor}
-use Rattle.tenant_asks.proofs.memory.Memory.first_state.Goals as goal
+use Rattle.tenant_asks.proofs.memory.Remembered.first_state.Goals as goal
 
 pub returns-in-Session : goal.returns-in-Session
 returns-in-Session c = λ g t q r.

@@ -20,19 +20,19 @@ use tenant_parts::{Batch, Manner};
 
 /// The replies to a request, and what its session then remembers.
 #[derive(Drop)]
-pub struct News {
+pub struct RequestEffects {
     pub batch: Batch,
     pub state: SessionState,
 }
 
 // Each fails only for want of memory.
-impl News {
+impl RequestEffects {
     /// Nothing is told yet.
-    pub fn new(alloc: Global, state: SessionState) -> News
+    pub fn new(alloc: Global, state: SessionState) -> RequestEffects
         ensures replies { told_bytes result ≡ [] }
         ensures state { told_state result ≡ state_view state }
     {
-        News {
+        RequestEffects {
             batch: Batch::new(alloc),
             state,
         }
