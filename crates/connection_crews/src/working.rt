@@ -263,13 +263,13 @@ impl<'c, 'a, L: Ledger, N: Naming, R: Wait, G: Gate> Worker<'c, 'a, L, N, R, G> 
         unreachable!()
     }
 
-    // Prints the value, and hands the ending in, as soon as there is room for its replies.
+    // Makes the replies, and hands the ending in, as soon as there is room for its replies.
     fn end(&mut self, mut finish: Finish<N>) -> Next {
         for _ in self.rt.forever() {
-            let Ok(printed) = finish.print(self.connection.alloc) else {
+            let Ok(spelled) = finish.spell(self.connection.alloc) else {
                 return Next::Cut;
             };
-            match self.connection.end_form(self.rt, &mut self.seat, printed) {
+            match self.connection.end_form(self.rt, &mut self.seat, spelled) {
                 Ended::Taken(replies, seen) => {
                     if are_long(&replies) {
                         self.stop_reading();

@@ -55,7 +55,7 @@ counted-pages f t vs last =
     ∙ sym (sum_by-append (λ (e : JournalEntry). if whose_entry e == t then 1 else 0) (flat_map f vs) last)
     ∙ sym (behind t [] all ∙ zero-add (entries_by t all))
 
--- a made_row to which the pages were added, and then the last
+-- a row to which the pages were added, and then the last
 pub rows-so : {V : Type 0} (f : V → List JournalEntry) (t : ℕ) (old mid new : Row) (vs : List V)
     (last : List JournalEntry) → old ≡ made_row 0 0
     → mid ≡ made_row (old.journalled + sum_by (λ v. entries_by t (f v)) vs) old.made

@@ -1,4 +1,4 @@
--- A machine that keeps a journal keeps it with one entry_of more, and answers as the journal leads.
+-- A machine that keeps a journal keeps it with one entry more, and answers as the journal leads.
 use Rattle.std.proofs.Common.{◌≡◌, ◌≢◌, ◌∙◌, List, [], ◌∷◌, ◌++◌, refl, sym, ap, subst}
 use Rattle.std.proofs.Common.{Result, Ok, Err, IfErr, ℕ, Option, None, Some, option_map}
 use Rattle.std.specs.Result.{IsErrAnd}

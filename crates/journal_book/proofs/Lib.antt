@@ -5,4 +5,4 @@ pub mod Counting
 pub mod FormsTold
 pub mod EndsTold
 pub mod Written
-pub mod Printing
+pub mod Spelling

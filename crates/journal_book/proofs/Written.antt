@@ -1,4 +1,4 @@
--- A step that was made is written down with one entry_of.
+-- A step that was made is written down with one entry.
 use Rattle.std.proofs.Common.{◌≡◌, ◌∙◌, ℕ, List, [], ◌∷◌, ◌++◌, Some, refl, sym, ap, subst}
 use Rattle.std.specs.Prelude.{unwrap_or, Box}
 use Rattle.std.specs.Global.{Global}
@@ -34,7 +34,7 @@ pub one-more : (said : List EntryData) (es : List JournalEntry) (e : JournalEntr
 one-more said [] e = refl
 one-more said (x ∷ es) e = one-more (said ++ entry_in said x ∷ []) es e
 
--- the entry_of says the step and its answer, behind those before it
+-- the entry says the step and its answer, behind those before it
 abbrev pub Says : List JournalEntry → JournalEntry → Step → StepAnswer → Type 0
 Says before e s answer = entry_in (entries before) e ≡ entry_of s answer
 
@@ -115,7 +115,7 @@ says-end config old new before t a ending end keeps makes same =
     ap (λ o. entry_of (does t (ends a (run_ended (unwrap_or o no_form) end))) form_finished) told
     ∙ ap (λ x. entry_of (does t (ends a (run_ended run x))) form_finished) same
 
--- whichever entry_of is kept of an end, it says the step and its answer
+-- whichever entry is kept of an end, it says the step and its answer
 pub says-ended : (config : Config) (old new : Machine) (before : List JournalEntry) (t : ℕ) (a : Actor)
     (noted : Box Finished Global) (ending : Box Ending Global) (answer : EndAnswer) (e : JournalEntry)
     → (answer ≡ EndAnswer.Finished → e ≡ JournalEntry.Ended t a noted)

@@ -5,6 +5,7 @@ use Rattle.server_rules.specs.Ground.{Ground}
 use Rattle.server_rules.specs.Plan.{StepAnswer, tenant_opened}
 use Rattle.server_rules.specs.Machine.World.{World, Step, opened_world, accepted, refused, step}
 use Rattle.server_rules.specs.Machine.World.{opens}
+use Rattle.server_rules.specs.Machine.Turns.{whose_step}
 use Rattle.server_rules.specs.declared.refusal.Refusal.{Refusal}
 use Rattle.repl_core.specs.Configured.{IsConfigured}
 use Rattle.repl_core.specs.Standing.{MachineStands}
@@ -41,10 +42,14 @@ abbrev pub HoldsBehind : BookData → (Ground → World → Type 0) → Type 0
 HoldsBehind book P = (g : Ground) (w : World) → IsConfigured g book.config
     → IsJournal g (opened_world g) (entries book.journal) w → P g w
 
+-- a step of the seat's tenant, which does not open it
+abbrev pub IsOwnStep : SeatData → Step → Type 0
+IsOwnStep seat s = (whose_step s ≡ seat.tenant) × (s ≢ opens seat.tenant)
+
 abbrev pub entry_of : Step → StepAnswer → EntryData
 entry_of s answer = record { step = s; answer = answer }
 
--- a book has one entry_of more, under the same configuration
+-- a book has one entry more, under the same configuration
 pub record Notes (old new : BookData) (e : EntryData) : Type 0 where
   pub config : new.config ≡ old.config
   pub journal : entries new.journal ≡ entries old.journal ++ e ∷ []
@@ -98,7 +103,7 @@ abbrev pub Writes : {A E : Type 0} → Step → Machine → List JournalEntry �
 Writes s old before after result answer = (config : Config) → KeepsFor config old (entries before)
     → IfOk result (λ x. IsWritten config before after s (answer x))
 
--- there is one entry_of more, and their number fits 64 bits
+-- there is one entry more, and their number fits 64 bits
 abbrev pub AddsOne : {A E : Type 0} → List JournalEntry → List JournalEntry → Result A E → Type 0
 AddsOne before after result =
     OnOk result ((length after ≡ length before + 1) × (length after < 2 ^ 64))

@@ -1,6 +1,5 @@
 // What goes beside an act and is no part of it.
 ghost use Rattle.std.specs.Prelude.{◌≡◌, None};
-ghost use Rattle.tenant_parts.specs.Aside.{printed_in};
 
 use repl_walker::{Ending, Walk};
 use std::alloc::Global;
@@ -37,7 +36,7 @@ impl Drop for Beside {
 impl Beside {
     /// Nothing was done, and nothing is left.
     pub fn nothing() -> Beside
-        ensures { printed_in result.aside ≡ None }
+        ensures { result.aside.spelled ≡ None }
     {
         Beside {
             aside: Aside::nothing(),

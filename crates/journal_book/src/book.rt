@@ -1,25 +1,24 @@
 // The book: the journal, the machine that stands for it, and the count of all steps.
-ghost use Rattle.std.specs.Prelude.{◌≡◌, ◌≢◌, ◌+◌, ◌*◌, ◌<◌, ◌≤◌, ◌^◌, ℕ, [], true, IfOk};
-ghost use Rattle.std.specs.Prelude.{IfErr, OnOk, length, vec_len};
+ghost use Rattle.std.specs.Prelude.{◌≡◌, ◌+◌, ◌*◌, ◌<◌, ◌≤◌, ◌^◌, ℕ, [], true, IfOk};
+ghost use Rattle.std.specs.Prelude.{IfErr, IfSome, OnOk, length, vec_len};
 ghost use Rattle.std.specs.Prelude.{option_and_then, option_copied, option_map};
 ghost use Rattle.server_rules.specs.Ground.{Ground};
 ghost use Rattle.server_rules.specs.Machine.Ready.{ready};
-ghost use Rattle.server_rules.specs.Machine.World.{World, opened_world, opens};
-ghost use Rattle.server_rules.specs.Machine.Turns.{whose_step, serve};
+ghost use Rattle.server_rules.specs.Machine.World.{World, opened_world};
+ghost use Rattle.server_rules.specs.Machine.Turns.{serve};
 ghost use Rattle.repl_core.specs.Configured.{IsConfigured};
 ghost use Rattle.repl_core.specs.Starting.{TellsFault};
 ghost use Rattle.server_rules.specs.Inside.Wires.{wire_at};
 ghost use Rattle.repl_core.specs.Standing.{open_in};
 ghost use Rattle.repl_core.specs.Steps.{step_view, step_answer_view};
-ghost use Rattle.journal_book.specs.Ahead.{next_text_in, tells_value_in};
+ghost use Rattle.journal_book.specs.Ahead.{next_text_in, IsAddresseeIn};
 ghost use Rattle.journal_book.specs.Alone.{bytes_to, NamesNoSharedIn, IsHonest, own_steps, own_turns};
-ghost use Rattle.tenant_parts.specs.Aside.{printed_in};
-ghost use Rattle.journal_book.specs.Beside.{PrintsStep};
+ghost use Rattle.journal_book.specs.Beside.{SpellsStep};
 ghost use Rattle.journal_book.specs.Forms.{EndsAsTold};
 ghost use Rattle.journal_book.specs.Journal.{IsJournal};
 ghost use Rattle.journal_book.specs.View.{entries, seat_with};
 ghost use Rattle.journal_book.specs.Rows.{made_row, row_of, entries_of, counted_of, all_counted};
-ghost use Rattle.journal_book.specs.Standing.{HoldsBehind, IsAdmitted, IsDeclined, IsMade};
+ghost use Rattle.journal_book.specs.Standing.{IsOwnStep, HoldsBehind, IsAdmitted, IsDeclined, IsMade};
 ghost use Rattle.journal_book.specs.Standing.{RefusesTenant};
 
 use crate::beside::Beside;
@@ -34,6 +33,7 @@ use std::alloc::Global;
 use std::marker::Model;
 use std::sync::ledger;
 use std::sync::ledger::{Blank, Ledger, Share};
+use tenant_parts::Addressee;
 
 /// How many tenants a book admits in all.
 pub const TENANTS: u64 = 1_000_000;
@@ -211,14 +211,13 @@ impl<L: Ledger> Book<L> {
         self.machine.tenant(tenant)?.next_text(actor)
     }
 
-    /// Whether the value of the form that an actor of a tenant runs is told when the form ends.
-    pub fn tells_value(&self, tenant: u64, actor: Actor) -> bool
-        ensures { HoldsBehind self.now (λ _ w. result ≡ tells_value_in actor (open_in tenant w)) }
+    /// To whom and how it is told that the form of an actor of a tenant ended, if something of it is in
+    /// hand. None also where a file's session was closed, and where 2^63 owners share the request.
+    pub fn addressee(&self, tenant: u64, actor: Actor) -> Option<Addressee>
+        ensures { HoldsBehind self.now (λ _ w.
+            IfSome result (IsAddresseeIn actor (open_in tenant w))) }
     {
-        match self.machine.tenant(tenant) {
-            Some(tenant) => tenant.tells_value(actor),
-            None => false,
-        }
+        self.machine.tenant(tenant)?.addressee(actor)
     }
 
     /// Opens the next tenant, which is counted on its reader's seat. Where it is refused nothing has
@@ -256,8 +255,7 @@ impl<L: Ledger> Book<L> {
     /// Makes a step of the seat's tenant, writes it down, and counts it on the seat. A step that is
     /// refused changes nothing, and is given back.
     pub fn act(&mut self, seat: &mut Seat<L>, step: Step) -> Result<Receipt, Refused>
-        requires own { whose_step (step_view step) ≡ seat.old.tenant }
-        requires no_opening { step_view step ≢ opens seat.old.tenant }
+        requires own { IsOwnStep seat.old (step_view step) }
         ensures made { IfOk result (λ r. (r.place ≡ length self.old.journal)
             × IsMade self.old self.new seat.old seat.new (step_view step)
             (step_answer_view r.answer)) }
@@ -277,10 +275,9 @@ impl<L: Ledger> Book<L> {
         is_known: bool,
         beside: &mut Beside,
     ) -> Result<Receipt, Refused>
-        requires own { whose_step (step_view step) ≡ seat.old.tenant }
-        requires no_opening { step_view step ≢ opens seat.old.tenant }
+        requires own { IsOwnStep seat.old (step_view step) }
         requires as_told { is_known ≡ true → EndsAsTold (entries self.old.journal) (step_view step) }
-        requires printed { PrintsStep (printed_in beside.old.aside) (step_view step) }
+        requires spelled { SpellsStep beside.old.aside.spelled (step_view step) }
         ensures made { IfOk result (λ r. (r.place ≡ length self.old.journal)
             × IsMade self.old self.new seat.old seat.new (step_view step)
             (step_answer_view r.answer)) }

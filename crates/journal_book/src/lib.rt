@@ -12,6 +12,6 @@ mod writing;
 
 pub use beside::Beside;
 pub use book::{Book, PARTS, Places, Receipt, SEATS, TENANTS, Unclosed};
-pub use entry::{AcceptedStep, AnsweredAsk, JournalEntry, HeardPiece, ResolvedSymbol};
+pub use entry::{AcceptedStep, AnsweredAsk, HeardPiece, JournalEntry, ResolvedSymbol};
 pub use report::{Report, Row};
 pub use seat::Seat;

@@ -14,7 +14,7 @@ ghost use Rattle.journal_book.specs.Journal.{EntryData};
 ghost use Rattle.journal_book.specs.Standing.{entry_of};
 ghost use Rattle.journal_book.specs.View.{entry_in, symbol_ask};
 
-use crate::entry::{AcceptedStep, AnsweredAsk, JournalEntry, HeardPiece, ResolvedSymbol};
+use crate::entry::{AcceptedStep, AnsweredAsk, HeardPiece, JournalEntry, ResolvedSymbol};
 use repl_asks::{Answer, Ask, Finished, Resolution};
 use repl_core::{Step, StepAnswer};
 use repl_values::{Value, copy_text};
@@ -101,7 +101,12 @@ fn narrow_entry(
 }
 
 // The entry of any ask.
-fn wide_entry(tenant: u64, actor: Actor, mut wide: Box<AnsweredAsk>, answer: AskAnswer) -> JournalEntry
+fn wide_entry(
+    tenant: u64,
+    actor: Actor,
+    mut wide: Box<AnsweredAsk>,
+    answer: AskAnswer,
+) -> JournalEntry
     ensures { (ask : AskData) (said : List EntryData) → ask_view wide.value.ask ≡ ask
         → entry_in said result
         ≡ entry_of (does tenant (asks_for actor ask)) (ask_answer_view answer) }
@@ -152,7 +157,11 @@ pub(crate) fn heard_entry(tenant: u64, mut noted: Box<HeardPiece>, messages: usi
 }
 
 /// The entry of any step that was answered so.
-pub(crate) fn step_entry(mut noted: Box<AcceptedStep>, step: Step, answer: StepAnswer) -> JournalEntry
+pub(crate) fn step_entry(
+    mut noted: Box<AcceptedStep>,
+    step: Step,
+    answer: StepAnswer,
+) -> JournalEntry
     ensures { (said : List EntryData) → entry_in said result
         ≡ entry_of (step_view step) (step_answer_view answer) }
 {

@@ -113,7 +113,7 @@ impl Report {
     }
 
     fn put(&mut self, tenant: u64, row: Row) -> Result<(), AllocError>
-        ensures put { OnOk result (row_of tenant self.new ≡ made_row) }
+        ensures put { OnOk result (row_of tenant self.new ≡ row) }
         ensures others { OnOk result ((t : ℕ) → t ≢ tenant
             → row_of t self.new ≡ row_of t self.old) }
     {

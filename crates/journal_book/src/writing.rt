@@ -16,9 +16,8 @@ ghost use Rattle.server_rules.specs.Machine.World.{World};
 ghost use Rattle.repl_core.specs.Kept.{EndsAsKept};
 ghost use Rattle.repl_core.specs.Standing.{MachineStands};
 ghost use Rattle.repl_core.specs.Steps.{AcceptsStep, RefusesStep};
-ghost use Rattle.tenant_parts.specs.Aside.{printed_in};
-ghost use Rattle.tenant_parts.specs.Printed.{PrintsEnd};
-ghost use Rattle.journal_book.specs.Beside.{PrintsStep};
+ghost use Rattle.tenant_parts.specs.Spelled.{SpellsEnd};
+ghost use Rattle.journal_book.specs.Beside.{SpellsStep};
 ghost use Rattle.journal_book.specs.Forms.{EndsAsTold};
 ghost use Rattle.journal_book.specs.Standing.{KeepsOn, Writes, AddsOne, DeclinesEntry};
 ghost use Rattle.journal_book.specs.View.{entries};
@@ -78,7 +77,7 @@ pub(crate) fn write(
     beside: &mut Beside,
 ) -> Result<StepAnswer, Refused>
     requires told { is_known ≡ true → EndsAsTold (entries journal.old.items) (step_view step) }
-    requires printed { PrintsStep (printed_in beside.old.aside) (step_view step) }
+    requires spelled { SpellsStep beside.old.aside.spelled (step_view step) }
     ensures keeps { KeepsOn machine.old journal.old.items machine.new journal.new.items }
     ensures written { Writes (step_view step) machine.old journal.old.items journal.new.items result
         step_answer_view }
@@ -253,7 +252,7 @@ fn end(
 ) -> Result<EndAnswer, Refused>
     requires told { is_known ≡ true → EndsAsTold (entries journal.old.items)
         (does tenant (ends actor (ending_view ending.value))) }
-    requires printed { PrintsEnd (printed_in beside.old.aside) (ending_view ending.value).end }
+    requires spelled { SpellsEnd beside.old.aside.spelled (ending_view ending.value).end }
     ensures keeps { KeepsOn machine.old journal.old.items machine.new journal.new.items }
     ensures written { Writes (does tenant (ends actor (ending_view ending.value))) machine.old
         journal.old.items journal.new.items result end_answer_view }
@@ -289,7 +288,7 @@ fn end_form(
     is_known: bool,
     aside: &mut Aside,
 ) -> Result<EndAnswer, Refusal>
-    requires { PrintsEnd (printed_in aside.old) (ending_view ending.now).end }
+    requires { SpellsEnd aside.old.spelled (ending_view ending.now).end }
     ensures done { (g : Ground) (w : World) → IsRight g → MachineStands g machine.old w
         → (is_known ≡ true → EndsAsKept w (does tenant (ends actor (ending_view ending.now))))
         → IfOk result (λ it. AcceptsStep g w (does tenant (ends actor (ending_view ending.now)))
@@ -318,7 +317,11 @@ fn refused(why: Refusal, tenant: u64, actor: Actor, ending: Box<Ending>) -> Refu
 }
 
 // A tenant's oldest reply is taken out.
-fn drain(machine: &mut Machine, journal: &mut Pages<JournalEntry>, tenant: u64) -> Result<Vec<u8>, Refusal>
+fn drain(
+    machine: &mut Machine,
+    journal: &mut Pages<JournalEntry>,
+    tenant: u64,
+) -> Result<Vec<u8>, Refusal>
     ensures keeps { KeepsOn machine.old journal.old.items machine.new journal.new.items }
     ensures written { Writes (does tenant drains) machine.old journal.old.items journal.new.items
         result (λ reply. reply_given reply.items) }

@@ -26,7 +26,7 @@ use Rattle.knowing_book.specs.Keys.{last_by}
 use Rattle.knowing_book.specs.Knowledge.{Tells, Knows, Shares}
 use Rattle.knowing_book.proofs.Entries.{prefix-entries}
 
--- what an entry_of tells of an actor's form
+-- what an entry tells of an actor's form
 abbrev pub tell : ℕ → Actor → Option Run → EntryData → Option Run
 tell t a form e = form_by_step t a e.step e.answer form
 
@@ -70,7 +70,7 @@ module _ (t : ℕ) (a : Actor) where
   by-tests u b told form true false same one apart = refl
   by-tests u b told form false d same one apart = refl
 
-  pub state : (form : Option Run) (e : EntryData) → is_under (actor_key t a) e ≡ false
+  pub quiet : (form : Option Run) (e : EntryData) → is_under (actor_key t a) e ≡ false
       → tell t a form e ≡ form
   quiet form e apart = by e.step apart
     where
@@ -178,7 +178,7 @@ module _ (t : ℕ) (a : Actor) where
       ≡ Some (run_with (exchange_from ask told) form)
   asked-told ask told form = own-tests _ _
 
--- what is known of a journal, as the journal with its new entry_of has it
+-- what is known of a journal, as the journal with its new entry has it
 pub known-before : (known : Option (List JournalEntry)) (before after : List EntryData) (e : EntryData)
     → IfSome known (λ es. entries es ≡ before) → after ≡ before ++ e ∷ []
     → IfSome known (λ es. after ≡ entries es ++ e ∷ [])

@@ -1,22 +1,20 @@
 // The book, what is known of its journal, and where the last entries of actors stand.
-ghost use Rattle.std.specs.Prelude.{ℕ, ◌≡◌, ◌≢◌, ◌+◌, List, [], ◌∷◌, ◌++◌, true};
+ghost use Rattle.std.specs.Prelude.{ℕ, ◌≡◌, ◌+◌, List, [], ◌∷◌, ◌++◌, true};
 ghost use Rattle.std.specs.Prelude.{IfOk, IfErr, IfSome, Some, length};
 ghost use Rattle.repl_asks.specs.Inside.View.{ask_view, answer_view};
 ghost use Rattle.repl_asks.specs.Inside.Jobs.{job_view};
 ghost use Rattle.repl_walker.specs.Ends.{ending_view};
 ghost use Rattle.server_rules.specs.Plan.{starts, asks_for, ends};
 ghost use Rattle.server_rules.specs.Plan.{form_begun, ask_answered};
-ghost use Rattle.server_rules.specs.Machine.World.{does, opens, closes};
-ghost use Rattle.server_rules.specs.Machine.Turns.{whose_step};
+ghost use Rattle.server_rules.specs.Machine.World.{does, closes};
 ghost use Rattle.server_rules.specs.Request.{Run};
 ghost use Rattle.repl_core.specs.Forms.{form_by_step};
 ghost use Rattle.repl_core.specs.Steps.{step_view, step_answer_view};
 ghost use Rattle.knowing_book.specs.Lasts.{AreLasts};
-ghost use Rattle.tenant_parts.specs.Aside.{printed_in};
-ghost use Rattle.journal_book.specs.Beside.{PrintsStep};
+ghost use Rattle.journal_book.specs.Beside.{SpellsStep};
 ghost use Rattle.journal_book.specs.Forms.{form_of, form_told, EndsAsTold};
 ghost use Rattle.journal_book.specs.Journal.{EntryData};
-ghost use Rattle.journal_book.specs.Standing.{IsAdmitted, IsDeclined, IsMade, RefusesTenant, entry_of};
+ghost use Rattle.journal_book.specs.Standing.{IsOwnStep, IsAdmitted, IsDeclined, IsMade, RefusesTenant, entry_of};
 ghost use Rattle.journal_book.specs.View.{entries, seat_with};
 ghost use Rattle.knowing_book.specs.Keys.{entry_key, last_by};
 ghost use Rattle.knowing_book.specs.Knowledge.{Knows, Shares};
@@ -157,8 +155,7 @@ impl<L: Ledger, N: Naming> KnowingBook<L, N> {
 
     /// Makes a step of the seat's tenant, as the book does.
     pub fn act(&mut self, seat: &mut Seat<L>, step: Step) -> Result<Receipt, Refused>
-        requires own { whose_step (step_view step) ≡ seat.old.tenant }
-        requires no_opening { step_view step ≢ opens seat.old.tenant }
+        requires own { IsOwnStep seat.old (step_view step) }
         ensures made { IfOk result (λ r. (r.place ≡ length self.old.journal)
             × IsMade self.old self.new seat.old seat.new (step_view step)
             (step_answer_view r.answer)) }
@@ -267,7 +264,7 @@ impl<L: Ledger, N: Naming> KnowingBook<L, N> {
 
     /// A form ends. Where its actor's last entry is the one that its worker knows of, two numbers are
     /// compared and nothing of its trace is; else the whole of it. No clause says which. An ending that
-    /// is refused is given back, without its print.
+    /// is refused is given back, without its replies.
     pub fn end(
         &mut self,
         seat: &mut Seat<L>,
@@ -285,9 +282,9 @@ impl<L: Ledger, N: Naming> KnowingBook<L, N> {
         let Finish {
             fact,
             ending,
-            printed,
+            spelled,
         } = finish;
-        beside.aside.printed = printed;
+        beside.aside.spelled = spelled;
         let tenant = seat.tenant();
         let fact = fact.of(tenant);
         let actor = fact.actor;
@@ -304,7 +301,7 @@ impl<L: Ledger, N: Naming> KnowingBook<L, N> {
                 let finish = Finish {
                     fact,
                     ending,
-                    printed: None,
+                    spelled: None,
                 };
                 Err(Unended { why, finish })
             }
@@ -320,10 +317,9 @@ impl<L: Ledger, N: Naming> KnowingBook<L, N> {
         is_known: bool,
         beside: &mut Beside,
     ) -> Result<Receipt, Refused>
-        requires own { whose_step (step_view step) ≡ seat.old.tenant }
-        requires no_opening { step_view step ≢ opens seat.old.tenant }
+        requires own { IsOwnStep seat.old (step_view step) }
         requires as_told { is_known ≡ true → EndsAsTold (entries self.old.journal) (step_view step) }
-        requires printed { PrintsStep (printed_in beside.old.aside) (step_view step) }
+        requires spelled { SpellsStep beside.old.aside.spelled (step_view step) }
         ensures made { IfOk result (λ r. (r.place ≡ length self.old.journal)
             × IsMade self.old self.new seat.old seat.new (step_view step)
             (step_answer_view r.answer)) }
@@ -351,21 +347,21 @@ impl<L: Ledger, N: Naming> KnowingBook<L, N> {
             → Knows result.known tenant actor result.last form }
         ensures whole { IfSome result.known (λ es. entries es ≡ entries self.now.journal) }
     {
-        let tells = self.book.tells_value(tenant, actor);
+        let addressee = self.book.addressee(tenant, actor);
         match self.lasts.get(actor_key(tenant, actor)) {
             Some(last) => Fact {
                 tenant,
                 actor,
                 last,
                 known: again(&self.known),
-                tells,
+                addressee,
             },
             None => Fact {
                 tenant,
                 actor,
                 last: 0,
                 known: None,
-                tells,
+                addressee,
             },
         }
     }
@@ -387,7 +383,7 @@ impl<L: Ledger, N: Naming> KnowingBook<L, N> {
             actor,
             last: before,
             known: mine,
-            tells,
+            addressee,
         } = fact;
         let now = self.fact(tenant, actor);
         if shares(&now.known, &mine, kept, before) {
@@ -398,7 +394,7 @@ impl<L: Ledger, N: Naming> KnowingBook<L, N> {
             actor,
             last: 0,
             known: None,
-            tells,
+            addressee,
         }
     }
 }

@@ -1,21 +1,19 @@
 // A form between its steps, with what is known of it for good.
-ghost use Rattle.std.specs.Prelude.{◌≡◌, IfOk, option_map, string_bytes};
-ghost use Rattle.repl_asks.specs.Inside.Jobs.{finished_view};
+ghost use Rattle.std.specs.Prelude.{◌≡◌, IfOk};
 ghost use Rattle.server_rules.specs.Request.{Run};
-ghost use Rattle.tenant_parts.specs.Printed.{PrintsEnd};
 ghost use Rattle.knowing_book.specs.Knowledge.{Knows};
 ghost use Rattle.knowing_book.specs.Reached.{IsReached};
 ghost use Rattle.knowing_book.specs.View.{begun_run, run_of, told_run};
 
 use crate::known::{Known, Naming};
 use journal_book::JournalEntry;
-use repl_asks::{Answer, Ask, End, Finished, Job};
-use repl_values::print_into;
+use repl_asks::{Answer, Ask, Job};
 use repl_walker::{Ending, Progress, Walk, start};
 use server_rules::Actor;
 use std::alloc::{AllocError, Global};
 use std::boxed::Box;
 use std::marker::Model;
+use tenant_parts::{Addressee, SpelledEnd};
 
 /// Whose form it is, up to which entry its actor's last one stands, and a beginning of the journal
 /// that tells the form up to there, if one is known.
@@ -25,8 +23,8 @@ pub(crate) struct Fact<N: Naming> {
     pub(crate) actor: Actor,
     pub(crate) last: u64,
     pub(crate) known: Option<Known<JournalEntry, N>>,
-    // whether its value is told at its end
-    pub(crate) tells: bool,
+    // to whom and how its end is told
+    pub(crate) addressee: Option<Addressee>,
 }
 
 impl<N: Naming> Fact<N> {
@@ -42,7 +40,7 @@ impl<N: Naming> Fact<N> {
             actor,
             last,
             known,
-            tells,
+            addressee,
         } = self;
         let known = if whose == tenant { known } else { None };
         Fact {
@@ -50,7 +48,7 @@ impl<N: Naming> Fact<N> {
             actor,
             last,
             known,
-            tells,
+            addressee,
         }
     }
 }
@@ -167,8 +165,8 @@ impl<N: Naming> Model for Answered<N> {
 pub struct Finish<N: Naming> {
     pub(crate) fact: Fact<N>,
     pub(crate) ending: Box<Ending>,
-    // its value as it is printed, if it was printed
-    pub(crate) printed: Option<String>,
+    // the replies that tell how it ended, if they were made
+    pub(crate) spelled: Option<SpelledEnd>,
 }
 
 impl<N: Naming> Model for Finish<N> {
@@ -176,8 +174,7 @@ impl<N: Naming> Model for Finish<N> {
     ghost use Rattle.repl_walker.specs.Ends.{ending_view};
     ghost use Rattle.repl_walker.specs.contracts.ending.Ending as endings;
     ghost use Rattle.server_rules.specs.contracts.actor.Actor as actors;
-    ghost use Rattle.std.specs.Prelude.{option_map, string_bytes};
-    ghost use Rattle.tenant_parts.specs.Printed.{PrintsEnd};
+    ghost use Rattle.tenant_parts.specs.Spelled.{SpellsEnd};
     ghost use Rattle.journal_book.specs.Forms.{form_of};
     ghost use Rattle.knowing_book.specs.Knowledge.{Knows};
     ghost use Rattle.knowing_book.specs.View.{FinishData};
@@ -190,7 +187,7 @@ impl<N: Naming> Model for Finish<N> {
 
     ghost invariant = { λ f. Knows f.fact.known f.fact.tenant f.fact.actor f.fact.last
         (form_of (ending_view f.ending.value))
-        × PrintsEnd (option_map string_bytes f.printed) (ending_view f.ending.value).end };
+        × SpellsEnd f.spelled (ending_view f.ending.value).end };
 }
 
 /// How far a form came: to its next ask, or to its end.
@@ -253,24 +250,25 @@ impl<N: Naming> Finish<N> {
         self.fact.actor
     }
 
-    /// Prints its value, if that is told and was not printed. It fails only for want of memory.
-    pub fn print(self, alloc: Global) -> Result<Finish<N>, AllocError>
+    /// Makes the replies that tell how it ended, if they were not made. It fails only for want of
+    /// memory.
+    pub fn spell(self, alloc: Global) -> Result<Finish<N>, AllocError>
         ensures { IfOk result (λ it. it ≡ self) }
     {
         let Finish {
             fact,
             ending,
-            printed,
+            spelled,
         } = self;
-        let printed = match printed {
-            Some(text) => Some(text),
-            None if fact.tells => printed_value(alloc, ending.end())?,
-            None => None,
+        let spelled = match (spelled, &fact.addressee) {
+            (Some(spelled), _) => Some(spelled),
+            (None, Some(to)) => Some(SpelledEnd::new(alloc, to, ending.end())?),
+            (None, None) => None,
         };
         Ok(Finish {
             fact,
             ending,
-            printed,
+            spelled,
         })
     }
 
@@ -281,13 +279,13 @@ impl<N: Naming> Finish<N> {
         let Finish {
             mut fact,
             ending,
-            printed,
+            spelled,
         } = self;
         fact.known = None;
         Finish {
             fact,
             ending,
-            printed,
+            spelled,
         }
     }
 }
@@ -312,23 +310,8 @@ fn reach<N: Naming>(
             Ok(Stage::Ends(Finish {
                 fact,
                 ending: Box::new(alloc, ending)?,
-                printed: None,
+                spelled: None,
             }))
         }
-    }
-}
-
-// The value of a form as it is printed, if it has one.
-fn printed_value(alloc: Global, finished: &Finished) -> Result<Option<String>, AllocError>
-    ensures { IfOk result (λ it. PrintsEnd (option_map string_bytes it)
-        (finished_view finished.now)) }
-{
-    match finished.end() {
-        End::Value(value) => {
-            let mut text = String::new(alloc);
-            print_into(alloc, value, &mut text)?;
-            Ok(Some(text))
-        }
-        End::Fault(_) => Ok(None),
     }
 }

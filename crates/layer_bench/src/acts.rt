@@ -171,7 +171,7 @@ impl<'a, L: Ledger, N: Naming, R: Clock> Bench<'a, L, N, R> {
         for _ in 0..u64::MAX {
             match stage {
                 Stage::Asks(question) => stage = self.ask(question)?.resume(self.alloc)?,
-                Stage::Ends(finish) => return self.end(finish.print(self.alloc)?),
+                Stage::Ends(finish) => return self.end(finish.spell(self.alloc)?),
             }
         }
         Ok(())

@@ -17,8 +17,8 @@ use std::alloc::{AllocError, Global};
 /// The agents of one tenant, numbered from 0 in the order of their making. None is ever removed.
 ///
 /// Sending takes no memory: `reserve` makes room before it, for whichever agents. The next action
-/// is found in about the logarithm of the number of agents, and an await is answered in one step
-/// for each agent that it names.
+/// is found in about the logarithm of the number of agents, and an await looks once at each agent
+/// that it names.
 #[derive(Drop)]
 pub struct Agents {
     pub(crate) alloc: Global,
@@ -105,7 +105,7 @@ impl Agents {
         }
     }
 
-    /// Makes room for so many sends, to whichever agents. It takes a step for each. It fails for
+    /// Makes room for so many sends, to whichever agents. Its time is linear. It fails for
     /// want of memory, or behind 2^63 sends.
     pub fn reserve(&mut self, sends: usize) -> Result<(), AllocError>
         ensures room { OnOk result (sends ≤ room_of self.new) }

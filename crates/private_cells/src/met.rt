@@ -11,7 +11,7 @@ use crate::counts::Sender;
 impl Agents {
     /// What comes of an await of these agents by a session, or by a bare request where there is
     /// none. A number that no agent has counts as one of an agent to which nothing was sent. It
-    /// takes one step for each number, however much waits.
+    /// looks at each number once, however much waits.
     pub fn await_met(&self, numbers: &[u64], session: Option<u64>) -> Await
         ensures { result ≡ awaited numbers.now session (agents_view self.now) }
     {

@@ -33,7 +33,7 @@ impl Agents {
     }
 
     /// The agent whose first action is the next to run. There is none while an action runs. It
-    /// takes one step.
+    /// takes constant time.
     pub fn next_agent(&self) -> Option<u64>
         ensures { result ≡ option_map (λ turn. turn.agent) (next_turn (agents_view self.now)) }
     {
@@ -88,7 +88,7 @@ impl Agents {
     }
 
     /// The action that runs, if there is one, ended with this fault, and its agent is failed. What
-    /// waits for the agent goes on waiting. It takes one step and no memory.
+    /// waits for the agent goes on waiting. It takes constant time and no memory.
     pub fn fail(&mut self, fault: Fault)
         ensures failed { agents_view self.new
             ≡ with_failure (failure_of fault) (agents_view self.old) }

@@ -6,8 +6,7 @@ ghost use Rattle.server_rules.specs.Plan.{messages_heard, reply_given};
 ghost use Rattle.server_rules.specs.Machine.World.{does};
 ghost use Rattle.ref_table.specs.Standing.{counter_of};
 ghost use Rattle.repl_walker.specs.Ends.{ending_view};
-ghost use Rattle.tenant_parts.specs.Aside.{printed_in};
-ghost use Rattle.tenant_parts.specs.Printed.{PrintsEnd};
+ghost use Rattle.tenant_parts.specs.Spelled.{SpellsEnd};
 ghost use Rattle.tenant_world.specs.Answers.{AreSameStarts, AreSameReplies};
 ghost use Rattle.tenant_asks.specs.Answers.{AreSameAnswers, ask_answer_view};
 ghost use Rattle.tenant_world.specs.Answers.{start_answer_view, end_answer_view};
@@ -98,7 +97,7 @@ impl Machine {
         ending: &Ending,
         aside: &mut Aside,
     ) -> Result<EndAnswer, Refusal>
-        requires { PrintsEnd (printed_in aside.old) (ending_view ending.now).end }
+        requires { SpellsEnd aside.old.spelled (ending_view ending.now).end }
         ensures done { DoesStep (does number (ends actor (ending_view ending.now))) self.old
             self.new result end_answer_view }
         ensures refused { DeclinesStep (does number (ends actor (ending_view ending.now)))
@@ -126,7 +125,7 @@ impl Machine {
         ending: &Ending,
         aside: &mut Aside,
     ) -> Result<EndAnswer, Refusal>
-        requires { PrintsEnd (printed_in aside.old) (ending_view ending.now).end }
+        requires { SpellsEnd aside.old.spelled (ending_view ending.now).end }
         ensures done { DoesKnown (does number (ends actor (ending_view ending.now))) self.old
             self.new result end_answer_view }
         ensures refused { DeclinesKnown (does number (ends actor (ending_view ending.now)))

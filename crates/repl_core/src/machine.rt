@@ -52,7 +52,7 @@ pub struct Config {
 }
 
 impl SharedText {
-    /// The text once more. It takes one step, and fails only where 2^63 owners share it.
+    /// The text once more. It takes constant time, and fails only where 2^63 owners share it.
     pub fn copy(&self) -> Result<SharedText, AllocError>
         ensures { IfOk result (λ copied. shared_text copied ≡ shared_text self.now) }
     {

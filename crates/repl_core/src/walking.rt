@@ -1,6 +1,6 @@
 // An actor goes on as its evaluation says.
-ghost use Rattle.std.specs.Prelude.{◌≡◌, ◌≢◌, ◌+◌, ◌<◌, ◌≤◌, true, Some, None, Err, OnOk};
-ghost use Rattle.std.specs.Prelude.{IfErr, OnErr};
+ghost use Rattle.std.specs.Prelude.{◌≡◌, ◌≢◌, ◌<◌, true, Some, None, Err, OnOk};
+ghost use Rattle.std.specs.Prelude.{IfErr};
 ghost use Rattle.repl_asks.specs.Inside.View.{ask_view, answer_view};
 ghost use Rattle.server_rules.specs.Ground.{Ground};
 ghost use Rattle.server_rules.specs.Tenant.{seat_of};
@@ -12,6 +12,7 @@ ghost use Rattle.server_rules.specs.Grounds.{IsRight};
 ghost use Rattle.server_rules.specs.LoneTurns.{LoneTenant};
 ghost use Rattle.tenant_asks.specs.Acting.{is_accepted};
 ghost use Rattle.tenant_asks.specs.Asking.{exchange_from, run_with};
+ghost use Rattle.tenant_parts.specs.Promises.{CountsOne};
 ghost use Rattle.tenant_world.specs.Running.{running_in};
 ghost use Rattle.tenant_world.specs.Standing.{CountsStep};
 ghost use Rattle.repl_core.specs.Inside.Seen.{keeps_walk};
@@ -52,8 +53,7 @@ impl Walks {
             (keeps_walk self.old self.new actor) result }
         ensures unworn { result ≡ Err Refusal.NoMemory → 0 < tenant.old.steps }
         ensures counted { CountsStep tenant.old tenant.new result }
-        ensures counter { counter_of refs.new ≤ counter_of refs.old + 1 }
-        ensures failed { OnErr result (counter_of refs.new ≡ counter_of refs.old) }
+        ensures commits { CountsOne refs.old refs.new result }
     {
         if tenant.is_worn() {
             return Err(Refusal::Worn);
@@ -119,8 +119,7 @@ impl Walks {
             → result ≡ Err Refusal.NoMemory
             → is_accepted (comes_to g l (deeds.asks_for actor (ask_view w.ask))).outcome ≡ true }
         ensures counted { CountsStep tenant.old tenant.new result }
-        ensures counter { counter_of refs.new ≤ counter_of refs.old + 1 }
-        ensures failed { OnErr result (counter_of refs.new ≡ counter_of refs.old) }
+        ensures commits { CountsOne refs.old refs.new result }
     {
         let Some(Progress::Asks(walk)) = self.get(actor) else {
             unreachable!();

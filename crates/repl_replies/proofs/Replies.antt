@@ -40,7 +40,7 @@ in_order o (sessions ids) =
     with_field (codes "id") o.id (with_field (codes "session") o.session (pair (codes "sessions") (list (strings ids)) (with_status (sessions ids))))
 in_order o described =
     pair (codes "aux") (dictionary no_pairs) (with_field (codes "id") o.id (pair (codes "ops") (dictionary (ops operations))
-    (with_field (codes "session") o.session (with_field (codes "status") (status_value (status described)) (pair (codes "server_versions") server_versions no_pairs)))))
+    (with_field (codes "session") o.session (with_field (codes "status") (status_value (status described)) (pair (codes "versions") server_versions no_pairs)))))
 in_order o done = plain o done
 in_order o unknown_session = plain o unknown_session
 in_order o no_code = plain o no_code

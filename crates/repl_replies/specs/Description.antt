@@ -23,4 +23,4 @@ abbrev pub description : Pairs
 description =
     pair (codes "aux") (dictionary no_pairs)
     (pair (codes "ops") (dictionary (ops operations))
-    (pair (codes "server_versions") server_versions no_pairs))
+    (pair (codes "versions") server_versions no_pairs))

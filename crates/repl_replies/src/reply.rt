@@ -1,5 +1,5 @@
 // The replies.
-ghost use Rattle.std.specs.Prelude.{◌≡◌, IfOk};
+ghost use Rattle.std.specs.Prelude.{◌≡◌, true, IfOk};
 ghost use Rattle.bencode_wire.specs.Inside.View.{tree_view};
 ghost use Rattle.repl_replies.specs.Replies.{no_origin, described};
 ghost use Rattle.repl_replies.specs.Inside.View.{field_view, origin_view, reply_view};
@@ -67,6 +67,24 @@ impl Origin {
             id: copy_field(alloc, &self.id)?,
             session: copy_field(alloc, &self.session)?,
         })
+    }
+
+    /// Whether both are known to be the same. Only strings are compared: an id or a session that is
+    /// anything else is not known to be that of the other. It takes no memory.
+    pub fn is_same(&self, other: &Origin) -> bool
+        ensures { result ≡ true → origin_view self.now ≡ origin_view other.now }
+    {
+        is_same_field(&self.id, &other.id) && is_same_field(&self.session, &other.session)
+    }
+}
+
+fn is_same_field(one: &Option<Ben>, other: &Option<Ben>) -> bool
+    ensures { result ≡ true → field_view one.now ≡ field_view other.now }
+{
+    match (one, other) {
+        (None, None) => true,
+        (Some(Ben::String(text)), Some(Ben::String(same))) => { text.as_slice() == same.as_slice() }
+        _ => false,
     }
 }
 

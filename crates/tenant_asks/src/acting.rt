@@ -16,7 +16,11 @@ use tenant_parts::Batch;
 
 /// Answers a request that its session was closed. It fails only for want of memory, and then
 /// changes nothing.
-pub fn interrupt(alloc: Global, memory: &mut Remembered, origin: &Arc<Origin>) -> Result<(), AllocError>
+pub fn interrupt(
+    alloc: Global,
+    memory: &mut Remembered,
+    origin: &Arc<Origin>,
+) -> Result<(), AllocError>
     ensures told { (g : Ground) (t : ℕ) (q : TenantState) → Remembers g t memory.old q
         → OnOk result (Remembers g t memory.new
         (with_replies (reply (origin_view (arc_value origin.now)) interrupted ∷ []) q)) }

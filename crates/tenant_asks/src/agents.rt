@@ -77,7 +77,11 @@ pub(crate) fn restart(
 }
 
 /// An agent that is failed is not awaited. It fails only for want of memory.
-pub(crate) fn awaited(alloc: Global, agents: &Agents, numbers: &[u64]) -> Result<AnswerCopies, AllocError>
+pub(crate) fn awaited(
+    alloc: Global,
+    agents: &Agents,
+    numbers: &[u64],
+) -> Result<AnswerCopies, AllocError>
     ensures answered { IfOk result (λ it. copies_view it
         ≡ told.permission (await_permission numbers.now (agents_view agents.now))) }
     ensures copies { IfOk result AreAllSame }

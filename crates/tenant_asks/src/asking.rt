@@ -1,6 +1,6 @@
 // A form asks.
-ghost use Rattle.std.specs.Prelude.{◌≡◌, ◌≢◌, ◌<◌, ◌≤◌, ◌+◌, ◌∷◌, [], true, false, None, Some, Err};
-ghost use Rattle.std.specs.Prelude.{IfOk, OnOk, IfErr, OnErr, MatchOption, is_some, map, IsNone};
+ghost use Rattle.std.specs.Prelude.{◌≡◌, ◌≢◌, ◌<◌, ◌∷◌, [], true, false, None, Some, Err};
+ghost use Rattle.std.specs.Prelude.{IfOk, OnOk, IfErr, OnErr, MatchOption, is_some, map};
 ghost use Rattle.std.specs.Arc.{arc_value};
 ghost use Rattle.repl_asks.specs.Inside.View.{ask_view, sending_view};
 ghost use Rattle.repl_replies.specs.Replies.{interrupted};
@@ -28,7 +28,8 @@ ghost use Rattle.tenant_asks.specs.Sends.{committed_sends, is_told_yes, sender_v
 ghost use Rattle.tenant_asks.specs.Cells.{cells_data};
 ghost use Rattle.tenant_asks.specs.Promises.{AcceptsAsk, RefusesAsk, LacksMemoryForAsk, site};
 ghost use Rattle.tenant_asks.specs.Rooms.{ActorHasRoom};
-ghost use Rattle.tenant_parts.specs.Serving.{PerformsCall, ServesWithAttempts};
+ghost use Rattle.tenant_parts.specs.Promises.{TellsCall, ServesStill, CountsOne, CountsIfTold};
+ghost use Rattle.tenant_parts.specs.Serving.{ServesWithAttempts};
 ghost use Rattle.tenant_parts.specs.AnswerCopies.{copies_view, told_answer, AreCopies};
 
 use crate::acting::interrupt;
@@ -47,7 +48,7 @@ use server_rules::{Actor, Refusal};
 use std::alloc::{AllocError, Global};
 use std::boxed::Box;
 use std::sync::Arc;
-use tenant_parts::{ActorState, Attempts, WorkInHand, AnswerCopies, call, is_told};
+use tenant_parts::{ActorState, AnswerCopies, Attempts, WorkInHand, call, is_told};
 
 // The first number that is none of the language.
 const END_OF_NUMBERS: u64 = 0x8000_0000_0000_0000;
@@ -75,8 +76,7 @@ pub fn ask(
     ensures same { IfOk result AreSameAnswers }
     ensures step { IsActorStep memory.old memory.new (actor_view state.old) (actor_view state.new)
         result }
-    ensures counter { counter_of refs.new ≤ counter_of refs.old + 1 }
-    ensures failed { OnErr result (counter_of refs.new ≡ counter_of refs.old) }
+    ensures counted { CountsOne refs.old refs.new result }
 {
     let Some(hand) = &state.hand else {
         return Err(Refusal::Idle);
@@ -257,8 +257,7 @@ fn answer(
     ensures same { IfOk result AreSameAnswers }
     ensures stays { OnErr result (actor_view state.new ≡ actor_view state.old) }
     ensures opened { opened_by memory.new ≡ opened_by memory.old }
-    ensures counter { counter_of refs.new ≤ counter_of refs.old + 1 }
-    ensures failed { OnErr result (counter_of refs.new ≡ counter_of refs.old) }
+    ensures counted { CountsOne refs.old refs.new result }
     ensures free { result ≢ Err Refusal.Held }
 {
     let Ok(mut exchange) = exchange_with_room(alloc, state, ask) else {
@@ -351,9 +350,7 @@ fn perform_ask(
         → OnErr result (Remembers g s.tenant memory.new q
         × ServesWithAttempts refs.new attempts.new s r) }
     ensures opened { opened_by memory.new ≡ opened_by memory.old }
-    ensures counter { counter_of refs.new ≤ counter_of refs.old + 1 }
-    ensures untold { IfOk result (λ it. IsNone it → counter_of refs.new ≡ counter_of refs.old) }
-    ensures failed { OnErr result (counter_of refs.new ≡ counter_of refs.old) }
+    ensures counted { CountsIfTold refs.old refs.new result }
     ensures copies { IfOk result AreCopies }
 {
     if is_of_names(ask) {
@@ -381,20 +378,14 @@ fn call_and_send(
     ask: &Ask,
 ) -> Result<Option<AnswerCopies>, AllocError>
     requires { counter_of refs.old < u128.MAX }
-    ensures called { (q : TenantState) (s : Store) (r : Refs)
-        → ServesWithAttempts refs.old attempts.old s r
-        → meant.is_allowed (ask_view ask.now) q.cells ≡ true
-        → IfOk result (λ it. PerformsCall refs.new attempts.new r (told_answer it)
-        (performed s (call_of (seat_of actor) (ask_view ask.now)))) }
+    ensures called { TellsCall actor (ask_view ask.now) refs.old attempts.old refs.new attempts.new
+        result }
     ensures sent { IfOk result (λ it. cells_data cells.new
         ≡ with_sends_if (is_told_yes (told_answer it)) (sender_view sender.entry)
         (committed_sends (ask_view ask.now)) (cells_data cells.old)) }
-    ensures stays { (s : Store) (r : Refs) → ServesWithAttempts refs.old attempts.old s r
-        → OnErr result (ServesWithAttempts refs.new attempts.new s r) }
+    ensures stays { ServesStill refs.old attempts.old refs.new attempts.new result }
     ensures unsent { OnErr result (cells_data cells.new ≡ cells_data cells.old) }
-    ensures counter { counter_of refs.new ≤ counter_of refs.old + 1 }
-    ensures untold { IfOk result (λ it. IsNone it → counter_of refs.new ≡ counter_of refs.old) }
-    ensures failed { OnErr result (counter_of refs.new ≡ counter_of refs.old) }
+    ensures counted { CountsIfTold refs.old refs.new result }
     ensures copies { IfOk result AreCopies }
 {
     let prepared = sends::prepare(alloc, &mut cells.agents, sender, sends_of(ask))?;

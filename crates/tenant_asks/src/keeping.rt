@@ -8,7 +8,7 @@ ghost use Rattle.tenant_asks.specs.Rooms.{RunHasRoom, HandHasRoom, ActorHasRoom}
 use repl_asks::Exchange;
 use std::alloc::AllocError;
 use std::boxed::Box;
-use tenant_parts::{ActorState, WorkInHand, Run};
+use tenant_parts::{ActorState, Run, WorkInHand};
 
 /// Makes room for an ask with its answer in the trace of the form that runs. It fails only for want
 /// of memory.

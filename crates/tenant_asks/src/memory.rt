@@ -43,7 +43,7 @@ impl Drop for Remembered {
 
 impl Remembered {
     /// What the session of an actor remembers, if it has one that was not closed.
-    pub(crate) fn shown(&self, actor: Actor) -> Option<&SessionState>
+    pub fn shown(&self, actor: Actor) -> Option<&SessionState>
         ensures { (g : Ground) (t : ℕ) (q : TenantState) → Remembers g t self.now q
             → unwrap_or (option_map (λ state. state_view state.now) result) fresh
             ≡ actor_state actor q }

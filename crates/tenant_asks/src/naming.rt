@@ -46,7 +46,12 @@ pub(crate) fn name(
     Ok(answer)
 }
 
-fn answer_of(alloc: Global, memory: &Remembered, actor: Actor, ask: &Ask) -> Result<Answer, AllocError>
+fn answer_of(
+    alloc: Global,
+    memory: &Remembered,
+    actor: Actor,
+    ask: &Ask,
+) -> Result<Answer, AllocError>
     requires { is_of_names (ask_view ask.now) ≡ true }
     ensures { (g : Ground) (t : ℕ) (q : TenantState) → Remembers g t memory.now q
         → IfOk result (λ a. answer_view a ≡ answer_to g actor q (ask_view ask.now) done) }

@@ -20,7 +20,7 @@ use server_rules::Actor;
 use std::alloc::{AllocError, Global};
 use std::collections::VecDeque;
 use std::sync::Arc;
-use tenant_parts::{WorkInHand, Manner, Run, AnswerCopies};
+use tenant_parts::{AnswerCopies, Manner, Run, WorkInHand};
 
 /// Who sends: what the replies to its request carry, and the number of its session, if it has one.
 #[derive(Clone, Copy)]
@@ -85,7 +85,11 @@ fn to_send(sender: Sender<'_>, sending: &Sending) -> Result<Outgoing, AllocError
 
 /// Whether something may be sent to the agent of this number: not where it is failed. It fails only
 /// for want of memory.
-pub(crate) fn permission(alloc: Global, agents: &Agents, number: u64) -> Result<AnswerCopies, AllocError>
+pub(crate) fn permission(
+    alloc: Global,
+    agents: &Agents,
+    number: u64,
+) -> Result<AnswerCopies, AllocError>
     ensures answered { IfOk result (λ it. copies_view it
         ≡ told.permission (send_permission number (agents_view agents.now))) }
     ensures copies { IfOk result AreAllSame }

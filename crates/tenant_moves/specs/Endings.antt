@@ -1,5 +1,5 @@
 -- What of a request in hand is still to do behind a form that ended.
-use Rattle.std.specs.Prelude.{◌≡◌, ℕ, ⊤, Bool, true, false, List, Option, None, Some, IfSome, Ok}
+use Rattle.std.specs.Prelude.{◌≡◌, ⊤, Bool, true, false, Option, None, Some, Ok}
 use Rattle.std.specs.Arc.{arc_str_bytes}
 use Rattle.value_data.specs.Datum.{Items, no_items, item}
 use Rattle.value_data.specs.Inside.View.{view}
@@ -9,7 +9,9 @@ use Rattle.server_rules.specs.Moves.{Move}
 use Rattle.tenant_moves.specs.declared.effects.RequestEffects.{RequestEffects}
 use Rattle.tenant_moves.specs.declared.ending.After.{After}
 use Rattle.tenant_moves.specs.Told.{TellsMove, Adds}
-use Rattle.tenant_parts.specs.Printed.{IsPrintOf}
+use Rattle.tenant_parts.specs.Spelled.{TellsResult}
+use Rattle.tenant_parts.specs.declared.spelled.ToldResult.{ToldResult}
+use Rattle.repl_replies.specs.Replies.{OriginData}
 
 abbrev pub are_none : Items → Bool
 are_none no_items = true
@@ -25,15 +27,12 @@ hand_after h After.Over = None
 hand_after h (After.Next namespace last) =
     Some (last_kept last (record h { running = None; namespace = arc_str_bytes namespace }))
 
--- the text is the last value so far as it is printed, if one is kept
-abbrev pub IsPrintOfLast : rules.Manner → List ℕ → Type 0
-IsPrintOfLast (rules.last_form d) text = IsPrintOf (Ok d) text
-IsPrintOfLast rules.each_form text = ⊤
-IsPrintOfLast rules.each_form_elsewhere text = ⊤
-IsPrintOfLast (rules.of_action session) text = ⊤
-
-abbrev pub PrintsLast : Option (List ℕ) → rules.Manner → Type 0
-PrintsLast printed m = IfSome printed (IsPrintOfLast m)
+-- the replies tell the last value so far, if one is kept
+abbrev pub TellsLast : OriginData → rules.Manner → ToldResult → Type 0
+TellsLast origin (rules.last_form d) told = TellsResult origin (Ok d) told
+TellsLast origin rules.each_form told = ⊤
+TellsLast origin rules.each_form_elsewhere told = ⊤
+TellsLast origin (rules.of_action session) told = ⊤
 
 -- a form of this request ended by this move
 pub record EndsForm (m : Move) (h : rules.WorkInHand) (made : RequestEffects × After) : Type 0 where

@@ -1,5 +1,5 @@
 // What is told of a request.
-ghost use Rattle.std.specs.Prelude.{◌≡◌, [], None, option_map, option_copied, OnOk};
+ghost use Rattle.std.specs.Prelude.{◌≡◌, [], None, Err, option_map, OnOk, IfSome};
 ghost use Rattle.std.specs.Arc.{arc_value};
 ghost use Rattle.repl_values.specs.Inside.FaultView.{failure_of};
 ghost use Rattle.repl_asks.specs.Inside.Jobs.{end_view};
@@ -7,7 +7,8 @@ ghost use Rattle.repl_replies.specs.Inside.View.{origin_view};
 ghost use Rattle.repl_sessions.specs.Inside.StateView.{state_view};
 ghost use Rattle.server_rules.specs.Moves.{over_by, closing_move, result_noted};
 ghost use Rattle.tenant_parts.specs.View.{manner_view};
-ghost use Rattle.tenant_moves.specs.Endings.{PrintsLast};
+ghost use Rattle.tenant_parts.specs.Spelled.{TellsResult};
+ghost use Rattle.tenant_moves.specs.Endings.{TellsLast};
 ghost use Rattle.tenant_moves.specs.Told.{told_bytes, told_state, Adds};
 
 use repl_asks::End;
@@ -16,7 +17,7 @@ use repl_sessions::SessionState;
 use repl_values::{Fault, Value, copy, copy_text};
 use std::alloc::{AllocError, Global};
 use std::sync::Arc;
-use tenant_parts::{Batch, Manner};
+use tenant_parts::{Batch, Manner, ToldResult};
 
 /// The replies to a request, and what its session then remembers.
 #[derive(Drop)]
@@ -43,12 +44,15 @@ impl RequestEffects {
         &mut self,
         origin: &Arc<Origin>,
         fault: &Fault,
+        told: Option<ToldResult>,
     ) -> Result<(), AllocError>
+        requires { IfSome told (TellsResult (origin_view (arc_value origin.now))
+            (Err (failure_of fault.now))) }
         ensures { OnOk result (Adds
             (over_by (origin_view (arc_value origin.now)) (failure_of fault.now) (told_state self.old))
             self.old self.new) }
     {
-        self.batch.add_fault(&**origin, fault)?;
+        self.batch.add_fault(&**origin, fault, told)?;
         self.batch.add(&**origin, Body::Done)?;
         self.state.note_fault(fault.copy()?);
         Ok(())
@@ -60,15 +64,16 @@ impl RequestEffects {
         origin: &Arc<Origin>,
         manner: &Manner,
         fault: &Option<Fault>,
-        printed: Option<&str>,
+        told: Option<ToldResult>,
     ) -> Result<(), AllocError>
-        requires { PrintsLast (option_copied printed) (manner_view manner.now) }
+        requires { IfSome told (TellsLast (origin_view (arc_value origin.now))
+            (manner_view manner.now)) }
         ensures { OnOk result (Adds (closing_move (origin_view (arc_value origin.now)) (manner_view manner.now)
             (option_map failure_of fault.now) (told_state self.old)) self.old self.new) }
     {
         match fault {
-            Some(fault) => self.end_by_fault(origin, fault),
-            None => self.end_well(origin, manner, printed),
+            Some(fault) => self.end_by_fault(origin, fault, None),
+            None => self.end_well(origin, manner, told),
         }
     }
 
@@ -76,9 +81,10 @@ impl RequestEffects {
         &mut self,
         origin: &Arc<Origin>,
         manner: &Manner,
-        printed: Option<&str>,
+        told: Option<ToldResult>,
     ) -> Result<(), AllocError>
-        requires { PrintsLast (option_copied printed) (manner_view manner.now) }
+        requires { IfSome told (TellsLast (origin_view (arc_value origin.now))
+            (manner_view manner.now)) }
         ensures { OnOk result (Adds (closing_move (origin_view (arc_value origin.now)) (manner_view manner.now)
             None (told_state self.old)) self.old self.new) }
     {
@@ -90,7 +96,7 @@ impl RequestEffects {
             Manner::LastForm(last) => {
                 let namespace = copy_text(&self.state.namespace)?;
                 self.batch
-                    .add_value(&**origin, namespace.as_str(), last, printed)?;
+                    .add_value(&**origin, namespace.as_str(), last, told)?;
                 self.batch.add(&**origin, Body::Done)?;
                 self.state.note_value(copy(last)?);
                 Ok(())

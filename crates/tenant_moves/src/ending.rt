@@ -1,12 +1,12 @@
 // A form of the request in hand has ended.
-ghost use Rattle.std.specs.Prelude.{◌≡◌, Some, option_map, option_copied, Ok, Err, IfOk};
+ghost use Rattle.std.specs.Prelude.{◌≡◌, Some, option_map, Ok, Err, IfOk, IfSome};
 ghost use Rattle.repl_values.specs.Inside.FaultView.{failure_of};
 ghost use Rattle.value_data.specs.Inside.View.{view};
 ghost use Rattle.repl_asks.specs.Inside.Jobs.{finished_view};
 ghost use Rattle.repl_sessions.specs.Inside.StateView.{state_view};
 ghost use Rattle.server_rules.specs.Request.{each_form, each_form_elsewhere, of_action};
 ghost use Rattle.server_rules.specs.Moves.{form_ended, form_ended_as, form_loaded, going_on};
-ghost use Rattle.tenant_parts.specs.Printed.{PrintsValue, PrintsEnd};
+ghost use Rattle.tenant_parts.specs.Spelled.{TellsEnd, TellsOutput, TellsResult};
 ghost use Rattle.tenant_parts.specs.View.{hand_view};
 ghost use Rattle.tenant_moves.specs.Told.{told_state};
 ghost use Rattle.tenant_moves.specs.Endings.{are_none, last_kept, hand_after, EndsForm, EndsFormBy};
@@ -17,7 +17,7 @@ use repl_sessions::SessionState;
 use repl_values::{Fault, Value, copy, copy_text};
 use std::alloc::{AllocError, Global};
 use std::sync::ArcStr;
-use tenant_parts::{WorkInHand, Manner};
+use tenant_parts::{Batch, EndReplies, Manner, ToldResult, WorkInHand};
 
 /// What of the request in hand is still to do behind a form.
 #[derive(Drop)]
@@ -37,16 +37,16 @@ pub fn form_end(
     alloc: Global,
     hand: &WorkInHand,
     finished: &Finished,
-    printed: Option<&str>,
+    replies: EndReplies,
     state: SessionState,
 ) -> Result<(RequestEffects, After), AllocError>
-    requires { PrintsEnd (option_copied printed) (finished_view finished.now) }
+    requires { TellsEnd (hand_view hand.now).origin (finished_view finished.now) replies }
     ensures { IfOk result (EndsForm
         (form_ended (hand_view hand.now) (finished_view finished.now) (state_view state))
         (hand_view hand.now)) }
 {
     let mut effects = RequestEffects::new(alloc, state);
-    let after = end_form(&mut effects, hand, finished, printed)?;
+    let after = end_form(&mut effects, hand, finished, replies)?;
     Ok((effects, after))
 }
 
@@ -54,21 +54,31 @@ fn end_form(
     effects: &mut RequestEffects,
     hand: &WorkInHand,
     finished: &Finished,
-    printed: Option<&str>,
+    replies: EndReplies,
 ) -> Result<After, AllocError>
-    requires { PrintsEnd (option_copied printed) (finished_view finished.now) }
+    requires { TellsEnd (hand_view hand.now).origin (finished_view finished.now) replies }
     ensures { IfOk result (EndsFormBy
         (form_ended_as (hand_view hand.now) (finished_view finished.now) (told_state effects.old)
         (hand_view hand.now).manner) (hand_view hand.now) effects.old effects.new) }
 {
     match &hand.manner {
-        Manner::EachForm => end_here(effects, hand, finished, printed),
-        Manner::EachFormElsewhere => end_elsewhere(effects, hand, finished, printed),
-        Manner::LastForm(_) => match finished.end() {
-            End::Value(value) => end_with_value(effects, hand, finished, value, printed),
-            End::Fault(fault) => end_with_fault(effects, hand, finished, fault),
-        },
-        Manner::OfAction(session) => end_action(effects, hand, finished, *session),
+        Manner::EachForm => end_here(effects, hand, finished, replies),
+        Manner::EachFormElsewhere => end_elsewhere(effects, hand, finished, replies),
+        Manner::LastForm(_) => {
+            let EndReplies { output, result } = replies;
+            match finished.end() {
+                End::Value(value) => {
+                    end_with_value(effects, hand, finished, value, output, result)
+                }
+                End::Fault(fault) => {
+                    end_with_fault(effects, hand, finished, fault, output, result)
+                }
+            }
+        }
+        Manner::OfAction(session) => {
+            let EndReplies { output, result: _ } = replies;
+            end_action(effects, hand, finished, *session, output)
+        }
     }
 }
 
@@ -78,12 +88,17 @@ fn end_action(
     hand: &WorkInHand,
     finished: &Finished,
     session: Option<u64>,
+    output: Option<Batch>,
 ) -> Result<After, AllocError>
+    requires { IfSome output (TellsOutput (hand_view hand.now).origin
+        (finished_view finished.now).text) }
     ensures { IfOk result (λ after. EndsFormBy
         (form_ended_as (hand_view hand.now) (finished_view finished.now) (told_state effects.old)
         (of_action session)) (hand_view hand.now) effects.old effects.new after) }
 {
-    effects.batch.add_output(&*hand.origin, finished.text())?;
+    effects
+        .batch
+        .add_printed(&*hand.origin, finished.text(), output)?;
     Ok(After::Over)
 }
 
@@ -91,14 +106,14 @@ fn end_here(
     effects: &mut RequestEffects,
     hand: &WorkInHand,
     finished: &Finished,
-    printed: Option<&str>,
+    replies: EndReplies,
 ) -> Result<After, AllocError>
-    requires { PrintsEnd (option_copied printed) (finished_view finished.now) }
+    requires { TellsEnd (hand_view hand.now).origin (finished_view finished.now) replies }
     ensures { IfOk result (λ after. EndsFormBy
         (form_ended_as (hand_view hand.now) (finished_view finished.now) (told_state effects.old)
         each_form) (hand_view hand.now) effects.old effects.new after) }
 {
-    effects.batch.add_end(&*hand.origin, finished, printed)?;
+    effects.batch.add_end(&*hand.origin, finished, replies)?;
     effects.note_result(finished.end())?;
     effects.state.enter(copy_text(finished.namespace())?);
     go_on_behind(effects, hand, finished)
@@ -108,14 +123,14 @@ fn end_elsewhere(
     effects: &mut RequestEffects,
     hand: &WorkInHand,
     finished: &Finished,
-    printed: Option<&str>,
+    replies: EndReplies,
 ) -> Result<After, AllocError>
-    requires { PrintsEnd (option_copied printed) (finished_view finished.now) }
+    requires { TellsEnd (hand_view hand.now).origin (finished_view finished.now) replies }
     ensures { IfOk result (λ after. EndsFormBy
         (form_ended_as (hand_view hand.now) (finished_view finished.now) (told_state effects.old)
         each_form_elsewhere) (hand_view hand.now) effects.old effects.new after) }
 {
-    effects.batch.add_end(&*hand.origin, finished, printed)?;
+    effects.batch.add_end(&*hand.origin, finished, replies)?;
     effects.note_result(finished.end())?;
     go_on_behind(effects, hand, finished)
 }
@@ -125,19 +140,24 @@ fn end_with_value(
     hand: &WorkInHand,
     finished: &Finished,
     value: &Value,
-    printed: Option<&str>,
+    output: Option<Batch>,
+    told: Option<ToldResult>,
 ) -> Result<After, AllocError>
-    requires { PrintsValue (option_copied printed) (view value.now) }
+    requires output { IfSome output (TellsOutput (hand_view hand.now).origin
+        (finished_view finished.now).text) }
+    requires told { IfSome told (TellsResult (hand_view hand.now).origin (Ok (view value.now))) }
     ensures { IfOk result (λ after. EndsFormBy
         (form_loaded (hand_view hand.now) (finished_view finished.now) (Ok (view value.now))
         (told_state effects.old)) (hand_view hand.now) effects.old effects.new after) }
 {
-    effects.batch.add_output(&*hand.origin, finished.text())?;
+    effects
+        .batch
+        .add_printed(&*hand.origin, finished.text(), output)?;
     let namespace = copy_text(finished.namespace())?;
     let last = copy(value)?;
     if is_last(hand) {
         let manner = Manner::LastForm(last);
-        effects.end_request(&hand.origin, &manner, &hand.fault, printed)?;
+        effects.end_request(&hand.origin, &manner, &hand.fault, told)?;
         return Ok(After::Over);
     }
     Ok(After::Next {
@@ -151,18 +171,30 @@ fn end_with_fault(
     hand: &WorkInHand,
     finished: &Finished,
     fault: &Fault,
+    output: Option<Batch>,
+    told: Option<ToldResult>,
 ) -> Result<After, AllocError>
+    requires output { IfSome output (TellsOutput (hand_view hand.now).origin
+        (finished_view finished.now).text) }
+    requires told { IfSome told (TellsResult (hand_view hand.now).origin
+        (Err (failure_of fault.now))) }
     ensures { IfOk result (λ after. EndsFormBy
         (form_loaded (hand_view hand.now) (finished_view finished.now) (Err (failure_of fault.now))
         (told_state effects.old)) (hand_view hand.now) effects.old effects.new after) }
 {
-    effects.batch.add_output(&*hand.origin, finished.text())?;
-    effects.end_by_fault(&hand.origin, fault)?;
+    effects
+        .batch
+        .add_printed(&*hand.origin, finished.text(), output)?;
+    effects.end_by_fault(&hand.origin, fault, told)?;
     Ok(After::Over)
 }
 
 // Behind a form whose end was told: the next form comes, or the request is done.
-fn go_on_behind(effects: &mut RequestEffects, hand: &WorkInHand, finished: &Finished) -> Result<After, AllocError>
+fn go_on_behind(
+    effects: &mut RequestEffects,
+    hand: &WorkInHand,
+    finished: &Finished,
+) -> Result<After, AllocError>
     ensures { IfOk result (λ after. EndsFormBy
         (going_on (record (hand_view hand.now) {
           namespace =

@@ -23,8 +23,8 @@ use tenant_parts::{Actors, Batch, Outbox};
 /// Carries out the messages of a piece, oldest first, and then tells of a fault of the stream,
 /// where the piece has one. It fails only for want of memory, and then changes nothing.
 ///
-/// A message costs about the logarithm of the number of sessions, and what it asks for; a list of
-/// the sessions a step for each.
+/// A message takes about the logarithm of the number of sessions, and what it asks for; a list of
+/// the sessions looks at each.
 pub fn handle_messages(
     alloc: Global,
     messages: VecDeque<Ben>,

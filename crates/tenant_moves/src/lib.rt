@@ -4,19 +4,19 @@
 
 mod changes;
 mod draft;
+mod effects;
 mod ending;
 mod handling;
 mod hearing;
-mod effects;
 mod operations;
 mod request;
 mod starting;
 mod staying;
 mod telling;
 
+pub use effects::RequestEffects;
 pub use ending::{After, form_end, go_on};
 pub use handling::handle_messages;
 pub use hearing::hear;
-pub use effects::RequestEffects;
 pub use request::{Opened, open_request};
 pub use starting::{Begun, BegunRequest, NextForm, begin, begin_request, next_form};

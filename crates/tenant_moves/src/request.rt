@@ -24,7 +24,7 @@ use repl_values::{Fault, Value, copy_text};
 use std::alloc::{AllocError, Global};
 use std::collections::VecDeque;
 use std::sync::{Arc, ArcStr};
-use tenant_parts::{Aside, WorkInHand, Manner, ProgramText, Waiting};
+use tenant_parts::{Aside, Manner, ProgramText, Waiting, WorkInHand};
 
 /// A request whose text was read.
 #[derive(Drop)]

@@ -21,7 +21,7 @@ use repl_replies::{Body, Origin};
 use repl_sessions::SessionState;
 use repl_values::{Value, copy, copy_text};
 use std::alloc::{AllocError, Global};
-use tenant_parts::{Aside, WorkInHand, Run, Waiting};
+use tenant_parts::{Aside, Run, Waiting, WorkInHand};
 
 /// A form that begins: its job, and the same once more to be given out.
 #[derive(Drop)]
@@ -89,13 +89,20 @@ fn run_form(
 }
 
 // No form is left.
-fn end_request(alloc: Global, hand: &WorkInHand, state: SessionState) -> Result<NextForm, AllocError>
+fn end_request(
+    alloc: Global,
+    hand: &WorkInHand,
+    state: SessionState,
+) -> Result<NextForm, AllocError>
     ensures { IfOk result (StartsForm (request_over (hand_view hand.now) (state_view state))
         (hand_view hand.now)) }
 {
     let mut effects = RequestEffects::new(alloc, state);
     effects.end_request(&hand.origin, &hand.manner, &hand.fault, None)?;
-    Ok(NextForm { effects, begun: None })
+    Ok(NextForm {
+        effects,
+        begun: None,
+    })
 }
 
 fn job_of(retries: u32, hand: &WorkInHand, form: &Value) -> Result<Job, AllocError>

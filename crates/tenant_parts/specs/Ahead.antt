@@ -1,11 +1,15 @@
 -- What an actor is about to do.
-use Rattle.std.specs.Prelude.{ℕ, Bool, true, false, List, [], ◌∷◌, Option, None, Some, option_and_then}
+use Rattle.std.specs.Prelude.{◌≡◌, ℕ, Bool, true, false, List, [], ◌∷◌, Option, None, Some, IfSome}
+use Rattle.std.specs.Prelude.{is_some, option_and_then}
+use Rattle.std.specs.Arc.{arc_value, arc_str_bytes}
 use Rattle.value_data.specs.Datum.{Items, no_items, item}
+use Rattle.repl_replies.specs.Inside.View.{origin_view}
 use Rattle.ref_table.specs.Numbered.{Entry, part_under}
 use Rattle.server_rules.specs.Request.{ProgramText, code, file, Waiting, WorkInHand, Manner}
 use Rattle.server_rules.specs.Request.{each_form, each_form_elsewhere, last_form, of_action}
-use Rattle.server_rules.specs.Tenant.{ActorData, seat_of}
+use Rattle.server_rules.specs.Tenant.{ActorData, TenantState, seat_of, actor_state}
 use Rattle.server_rules.specs.declared.actor.Actor.{Actor}
+use Rattle.tenant_parts.specs.declared.spelled.Addressee.{Addressee}
 
 abbrev program_bytes : ProgramText → List ℕ
 program_bytes (code text ns) = text
@@ -45,9 +49,17 @@ actor_named a es = part_under (seat_of a) es
 abbrev pub next_text_of : Actor → List (Entry ActorData) → Option (List ℕ)
 next_text_of a es = option_and_then next_text (actor_named a es)
 
-abbrev some_tells : Option ActorData → Bool
-some_tells None = false
-some_tells (Some a) = tells_value a
+-- only with the value of a file the namespace of its session is told
+abbrev told_elsewhere : Manner → Bool
+told_elsewhere (last_form d) = true
+told_elsewhere _ = false
 
-abbrev pub tells_value_of : Actor → List (Entry ActorData) → Bool
-tells_value_of a es = some_tells (actor_named a es)
+-- what tells how the actor's form ended is for this request, and says so much of a value
+pub record IsAddressee (a : Actor) (q : TenantState) (it : Addressee) : Type 0 where
+  pub hand : WorkInHand
+  pub is_there : option_and_then (λ (actor : ActorData). actor.hand) (actor_named a q.actors)
+      ≡ Some hand
+  pub origin : origin_view (arc_value it.origin) ≡ hand.origin
+  pub elsewhere : is_some it.namespace ≡ told_elsewhere hand.manner
+  pub namespace : IfSome it.namespace (λ text. arc_str_bytes text ≡ (actor_state a q).namespace)
+  pub value : it.hears_value ≡ told_in hand.manner hand.forms

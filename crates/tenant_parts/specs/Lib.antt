@@ -5,11 +5,11 @@ pub mod View
 pub mod Queues
 pub mod Lent
 pub mod Replies
-pub mod Printed
-pub mod Aside
+pub mod Spelled
 pub mod Ahead
 pub mod AnswerCopies
 pub mod Attempts
 pub mod Sound
 pub mod Serving
 pub mod Bounds
+pub mod Promises

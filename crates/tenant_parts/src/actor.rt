@@ -7,7 +7,7 @@ ghost use Rattle.tenant_parts.specs.Ahead.{next_text, tells_value};
 ghost use Rattle.tenant_parts.specs.Busy.{is_busy};
 ghost use Rattle.tenant_parts.specs.Queues.{with_request, without_newest};
 
-use crate::request::{WorkInHand, Manner, ProgramText, Waiting};
+use crate::request::{Manner, ProgramText, Waiting, WorkInHand};
 use std::alloc::{AllocError, Global};
 use std::collections::VecDeque;
 

@@ -105,7 +105,7 @@ impl Actors {
         Ok(())
     }
 
-    /// The names of all, in order. It takes a step for each, and fails only for want of memory.
+    /// The names of all, in order. It looks at each, and fails only for want of memory.
     pub fn names(&self, alloc: Global) -> Result<Vec<Actor>, AllocError>
         ensures { IfOk result (λ names. names.items
             ≡ map (λ e. actor_at e.number) (actors_view self.now)) }
@@ -118,7 +118,7 @@ impl Actors {
     }
 
     /// The names of those that have something to do, in order: a form runs, or a request is in
-    /// hand, or one waits. It takes a step for each of them, and fails only for want of memory.
+    /// hand, or one waits. It looks at each of them, and fails only for want of memory.
     pub fn busy(&self, alloc: Global) -> Result<Vec<Actor>, AllocError>
         ensures names { IfOk result (λ names. names.items ≡ busy_of (actors_view self.now)) }
         ensures order { Ascend (actors_view self.now) }
@@ -133,8 +133,8 @@ impl Actors {
         Ok(names)
     }
 
-    /// The first that has a form or a request to begin. It takes a step for each that has something
-    /// to do, up to that one.
+    /// The first that has a form or a request to begin. It looks at each that has something to do,
+    /// up to that one.
     pub fn ready(&self) -> Option<Actor>
         ensures { result
             ≡ option_map (λ e. actor_at e.number) (find has_work (actors_view self.now)) }

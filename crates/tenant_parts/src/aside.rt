@@ -1,14 +1,18 @@
 // What goes beside a step and is no part of it.
-ghost use Rattle.std.specs.Prelude.{◌≡◌, None, IfOk, option_copied};
+ghost use Rattle.std.specs.Prelude.{◌≡◌, None, IfOk};
 ghost use Rattle.value_data.specs.Inside.View.{items_view};
 ghost use Rattle.repl_reader.specs.Grammar.{IsReading};
 ghost use Rattle.repl_reader.specs.Inside.View.{fault_option};
-ghost use Rattle.tenant_parts.specs.Aside.{printed_in};
+ghost use Rattle.repl_asks.specs.Job.{EndData};
+ghost use Rattle.repl_replies.specs.Inside.View.{origin_view};
+ghost use Rattle.tenant_parts.specs.Spelled.{SpellsEnd, TellsEnd};
 
 use crate::actor::ActorState;
 use crate::read_text::{ReadText, take_if_of};
-use crate::request::{WorkInHand, Run, Waiting};
+use crate::request::{Run, Waiting, WorkInHand};
+use crate::spelled::{EndReplies, SpelledEnd};
 use repl_reader::{ProgramForms, read_all};
+use repl_replies::Origin;
 use std::alloc::{AllocError, Global};
 
 /// What a step leaves to nobody.
@@ -37,13 +41,13 @@ impl Drop for Left {
 }
 
 /// What was done for a step beforehand, and what the step leaves to nobody. So whoever makes steps
-/// under a lock can read and print before it, and free memory behind it. What a step is answered
+/// under a lock can read a text and make replies before it, and free memory behind it. What a step is answered
 /// does not depend on it.
 pub struct Aside {
     /// The text of the request that begins, if it was read.
     pub read: Option<ReadText>,
-    /// The value of the form that ends as it is printed, if it was printed.
-    pub printed: Option<String>,
+    /// The replies that tell how the form that ends did, if they were made.
+    pub spelled: Option<SpelledEnd>,
     pub left: Left,
 }
 
@@ -51,7 +55,7 @@ impl Drop for Aside {
     fn drop(self) {
         let Aside {
             read: _read,
-            printed: _printed,
+            spelled: _spelled,
             left: _left,
         } = self;
     }
@@ -60,22 +64,23 @@ impl Drop for Aside {
 impl Aside {
     /// Nothing was done, and nothing is left.
     pub fn nothing() -> Aside
-        ensures { result ≡ record { read = None; printed = None; left = Left.Nothing } }
+        ensures { result ≡ record { read = None; spelled = None; left = Left.Nothing } }
     {
         Aside {
             read: None,
-            printed: None,
+            spelled: None,
             left: Left::Nothing,
         }
     }
 
-    /// The value as it is printed, if it was printed.
-    pub fn printed(&self) -> Option<&str>
-        ensures { option_copied result ≡ printed_in self.now }
+    /// The replies that tell this request how its form ended, as far as they were made for it.
+    pub fn replies_to(&mut self, origin: &Origin) -> EndReplies
+        ensures { (e : EndData) → SpellsEnd self.old.spelled e
+            → TellsEnd (origin_view origin.now) e result }
     {
-        match &self.printed {
-            Some(text) => Some(text.as_str()),
-            None => None,
+        match self.spelled.take() {
+            Some(spelled) => spelled.replies_to(origin),
+            None => EndReplies::none(),
         }
     }
 
@@ -84,7 +89,7 @@ impl Aside {
     pub fn forms_of(&mut self, alloc: Global, text: &str) -> Result<ProgramForms, AllocError>
         ensures forms { IfOk result (λ it. IsReading text.now (items_view it.forms.items)
             (fault_option it.fault)) }
-        ensures printed { self.new.printed ≡ self.old.printed }
+        ensures spelled { self.new.spelled ≡ self.old.spelled }
     {
         match take_if_of(&mut self.read, text) {
             Some(forms) => Ok(forms),

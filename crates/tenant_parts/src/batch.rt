@@ -1,6 +1,6 @@
 // The replies that a step makes.
-ghost use Rattle.std.specs.Prelude.{◌≡◌, [], ◌∷◌, ◌++◌, map, option_map, string_bytes, IfOk, OnOk};
-ghost use Rattle.std.specs.Prelude.{option_copied};
+ghost use Rattle.std.specs.Prelude.{◌≡◌, [], ◌∷◌, ◌++◌, map, string_bytes, IfOk, OnOk};
+ghost use Rattle.std.specs.Prelude.{IfSome, Ok, Err};
 ghost use Rattle.value_data.specs.Inside.View.{view};
 ghost use Rattle.repl_values.specs.Inside.FaultView.{failure_of};
 ghost use Rattle.repl_asks.specs.Inside.Jobs.{finished_view};
@@ -9,19 +9,21 @@ ghost use Rattle.repl_replies.specs.Inside.View.{origin_view, body_view};
 ghost use Rattle.server_rules.specs.Replying.{reply, fault_line, fault_replies, output_replies};
 ghost use Rattle.server_rules.specs.Replying.{value_reply};
 ghost use Rattle.server_rules.specs.Moves.{end_replies};
-ghost use Rattle.tenant_parts.specs.Printed.{PrintsValue, PrintsEnd};
+ghost use Rattle.tenant_parts.specs.Spelled.{TellsEnd, TellsOutput, TellsResult};
 ghost use Rattle.tenant_parts.specs.Replies.{made_bytes};
 
+use crate::spelled::{EndReplies, ToldResult};
 use repl_asks::{End, Finished};
 use repl_replies::{Body, Origin};
 use repl_values::{Fault, Value, print_into};
 use std::alloc::{AllocError, Global};
+use std::collections::VecDeque;
 
 /// Replies that were made and do not wait yet, in order, each as its bytes.
 #[derive(Drop)]
 pub struct Batch {
     alloc: Global,
-    pub(crate) replies: Vec<Vec<u8>>,
+    pub(crate) replies: VecDeque<Vec<u8>>,
 }
 
 // Each fails only for want of memory.
@@ -32,7 +34,7 @@ impl Batch {
     {
         Batch {
             alloc,
-            replies: Vec::new(alloc),
+            replies: VecDeque::new(alloc),
         }
     }
 
@@ -43,22 +45,32 @@ impl Batch {
             (reply (origin_view origin.now) (body_view body) ∷ [])) }
     {
         let bytes = origin.reply_bytes(self.alloc, &body)?;
-        self.replies.push(bytes)?;
+        self.replies.push_back(bytes)?;
         Ok(())
     }
 
-    /// Adds what is told of a fault: its class, and the whole as a line of text.
-    pub fn add_fault(&mut self, origin: &Origin, fault: &Fault) -> Result<(), AllocError>
+    /// Adds what is told of a fault: its class, and the whole as a line of text. These are made now,
+    /// unless they were before.
+    pub fn add_fault(
+        &mut self,
+        origin: &Origin,
+        fault: &Fault,
+        made: Option<ToldResult>,
+    ) -> Result<(), AllocError>
+        requires { IfSome made (TellsResult (origin_view origin.now) (Err (failure_of fault.now))) }
         ensures { OnOk result (made_bytes self.new
             ≡ made_bytes self.old ++ map bytes_of
             (fault_replies (origin_view origin.now) (failure_of fault.now))) }
     {
+        if let Some(told) = made {
+            return self.append(told.replies);
+        }
         let Fault { class, text } = fault;
         let told = origin.exception_bytes(self.alloc, class.as_str())?;
-        self.replies.push(told)?;
+        self.replies.push_back(told)?;
         let line = line_of(self.alloc, class.as_str(), text.as_str())?;
         let told = origin.error_text_bytes(self.alloc, line.as_str())?;
-        self.replies.push(told)?;
+        self.replies.push_back(told)?;
         Ok(())
     }
 
@@ -72,32 +84,51 @@ impl Batch {
             return Ok(());
         }
         let bytes = origin.output_bytes(self.alloc, printed)?;
-        self.replies.push(bytes)?;
+        self.replies.push_back(bytes)?;
         Ok(())
     }
 
-    /// Adds a value as it is printed, with the namespace. It is printed now, unless it was before.
+    /// Adds what a form printed, if that is anything. The reply is made now, unless it was before.
+    pub fn add_printed(
+        &mut self,
+        origin: &Origin,
+        printed: &str,
+        made: Option<Batch>,
+    ) -> Result<(), AllocError>
+        requires { IfSome made (TellsOutput (origin_view origin.now) printed.now) }
+        ensures { OnOk result (made_bytes self.new
+            ≡ made_bytes self.old ++ map bytes_of
+            (output_replies (origin_view origin.now) printed.now)) }
+    {
+        match made {
+            Some(made) => self.append(made),
+            None => self.add_output(origin, printed),
+        }
+    }
+
+    /// Adds a value as it is printed, with the namespace. It is printed now, unless it was before, and
+    /// is told in this namespace.
     pub fn add_value(
         &mut self,
         origin: &Origin,
         namespace: &str,
         value: &Value,
-        printed: Option<&str>,
+        made: Option<ToldResult>,
     ) -> Result<(), AllocError>
-        requires { PrintsValue (option_copied printed) (view value.now) }
+        requires { IfSome made (TellsResult (origin_view origin.now) (Ok (view value.now))) }
         ensures { OnOk result (made_bytes self.new
             ≡ made_bytes self.old ++ map bytes_of
             (value_reply (origin_view origin.now) namespace.now (view value.now) ∷ [])) }
     {
-        if let Some(text) = printed {
-            let bytes = origin.value_bytes(self.alloc, text, namespace)?;
-            self.replies.push(bytes)?;
-            return Ok(());
+        if let Some(told) = made {
+            if told.namespace.as_str() == namespace {
+                return self.append(told.replies);
+            }
         }
         let mut text = String::new(self.alloc);
         print_into(self.alloc, value, &mut text)?;
         let bytes = origin.value_bytes(self.alloc, text.as_str(), namespace)?;
-        self.replies.push(bytes)?;
+        self.replies.push_back(bytes)?;
         Ok(())
     }
 
@@ -106,20 +137,28 @@ impl Batch {
         &mut self,
         origin: &Origin,
         finished: &Finished,
-        printed: Option<&str>,
+        made: EndReplies,
     ) -> Result<(), AllocError>
-        requires { PrintsEnd (option_copied printed) (finished_view finished.now) }
+        requires { TellsEnd (origin_view origin.now) (finished_view finished.now) made }
         ensures { OnOk result (made_bytes self.new
             ≡ made_bytes self.old ++ map bytes_of
             (end_replies (origin_view origin.now) (finished_view finished.now))) }
     {
-        self.add_output(origin, finished.text())?;
+        let EndReplies { output, result } = made;
+        self.add_printed(origin, finished.text(), output)?;
         match finished.end() {
             End::Value(value) => {
-                self.add_value(origin, finished.namespace().as_str(), value, printed)
+                self.add_value(origin, finished.namespace().as_str(), value, result)
             }
-            End::Fault(fault) => self.add_fault(origin, fault),
+            End::Fault(fault) => self.add_fault(origin, fault, result),
         }
+    }
+
+    // Adds those of another batch.
+    fn append(&mut self, mut more: Batch) -> Result<(), AllocError>
+        ensures { OnOk result (made_bytes self.new ≡ made_bytes self.old ++ made_bytes more) }
+    {
+        self.replies.append(&mut more.replies)
     }
 }
 

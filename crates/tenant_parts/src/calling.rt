@@ -1,18 +1,19 @@
 // What a form asks of the refs.
-ghost use Rattle.std.specs.Prelude.{◌≡◌, ◌<◌, ◌≤◌, ◌+◌, ◌^◌, true, IsNone, IfOk, OnErr};
+ghost use Rattle.std.specs.Prelude.{◌≡◌, ◌<◌, IfOk, OnErr};
 ghost use Rattle.repl_asks.specs.Inside.View.{ask_view, name_view, intent_view};
 ghost use Rattle.value_data.specs.Inside.View.{view};
-ghost use Rattle.server_rules.specs.Asking.{call_of, is_allowed, may_be_set, may_send_call};
+ghost use Rattle.server_rules.specs.Asking.{may_send_call};
 ghost use Rattle.ref_table.specs.Calls.{performed, makes, begins, reads, counts, commits};
 ghost use Rattle.ref_table.specs.Calls.{outside};
 ghost use Rattle.ref_table.specs.Store.{Store};
-ghost use Rattle.server_rules.specs.Tenant.{TenantState, seat_of};
+ghost use Rattle.server_rules.specs.Tenant.{seat_of};
 ghost use Rattle.ref_table.specs.Refs.{Refs};
 ghost use Rattle.ref_table.specs.Standing.{counter_of};
 ghost use Rattle.ref_table.specs.Told.{setting_told};
 ghost use Rattle.tenant_parts.specs.Attempts.{Reaches};
+ghost use Rattle.tenant_parts.specs.Promises.{TellsCall, ServesStill, CountsIfTold};
 ghost use Rattle.tenant_parts.specs.Bounds.{least_call, most_call};
-ghost use Rattle.tenant_parts.specs.Serving.{TableServes, ServesWithAttempts, PerformsCall};
+ghost use Rattle.tenant_parts.specs.Serving.{ServesWithAttempts, PerformsCall};
 ghost use Rattle.tenant_parts.specs.AnswerCopies.{told_answer, AreCopies};
 
 use crate::attempts::Attempts;
@@ -35,16 +36,10 @@ pub fn call(
     ask: &Ask,
 ) -> Result<Option<AnswerCopies>, AllocError>
     requires { counter_of refs.old < u128.MAX }
-    ensures called { (q : TenantState) (s : Store) (r : Refs)
-        → ServesWithAttempts refs.old attempts.old s r
-        → is_allowed (ask_view ask.now) q.cells ≡ true
-        → IfOk result (λ it. PerformsCall refs.new attempts.new r (told_answer it)
-        (performed s (call_of (seat_of actor) (ask_view ask.now)))) }
-    ensures stays { (s : Store) (r : Refs) → ServesWithAttempts refs.old attempts.old s r
-        → OnErr result (ServesWithAttempts refs.new attempts.new s r) }
-    ensures counter { counter_of refs.new ≤ counter_of refs.old + 1 }
-    ensures untold { IfOk result (λ it. IsNone it → counter_of refs.new ≡ counter_of refs.old) }
-    ensures failed { OnErr result (counter_of refs.new ≡ counter_of refs.old) }
+    ensures called { TellsCall actor (ask_view ask.now) refs.old attempts.old refs.new attempts.new
+        result }
+    ensures stays { ServesStill refs.old attempts.old refs.new attempts.new result }
+    ensures counted { CountsIfTold refs.old refs.new result }
     ensures copies { IfOk result AreCopies }
 {
     match ask {
@@ -250,9 +245,7 @@ fn commit(
         (performed s (commits (seat_of actor) (intent_view intent.now)))) }
     ensures stays { (s : Store) (r : Refs) → ServesWithAttempts refs.old attempts.old s r
         → OnErr result (ServesWithAttempts refs.new attempts.new s r) }
-    ensures counter { counter_of refs.new ≤ counter_of refs.old + 1 }
-    ensures untold { IfOk result (λ it. IsNone it → counter_of refs.new ≡ counter_of refs.old) }
-    ensures failed { OnErr result (counter_of refs.new ≡ counter_of refs.old) }
+    ensures counted { CountsIfTold refs.old refs.new result }
     ensures copies { IfOk result AreCopies }
 {
     let Some(point) = attempts.point(actor) else {

@@ -53,7 +53,7 @@ impl Outbox {
 
     /// Lets the replies of a batch wait, in order. It fails only for want of memory, and then adds
     /// none.
-    pub fn post(&mut self, batch: Batch) -> Result<(), AllocError>
+    pub fn post(&mut self, mut batch: Batch) -> Result<(), AllocError>
         ensures posted { OnOk result (waiting_bytes self.new
             ≡ waiting_bytes self.old ++ made_bytes batch) }
         ensures stays { OnErr result (waiting_bytes self.new ≡ waiting_bytes self.old) }
@@ -61,7 +61,6 @@ impl Outbox {
         if batch.replies.is_empty() {
             return Ok(());
         }
-        let mut made = VecDeque::from_vec(batch.replies);
-        self.replies.append(&mut made)
+        self.replies.append(&mut batch.replies)
     }
 }

@@ -1,6 +1,7 @@
 -- What the calls of a tenant promise of a deed, for every tenant for which the code stands before.
 use Rattle.std.specs.Prelude.{◌≡◌, true, Result, Err, IfOk, IfErr}
-use Rattle.repl_asks.specs.Exchange.{AskData}
+use Rattle.repl_asks.specs.Inside.View.{ask_view}
+use Rattle.repl_asks.specs.declared.ask.Ask.{Ask}
 use Rattle.repl_asks.specs.Job.{EndData, EndingData}
 use Rattle.ref_table.specs.Refs.{Refs, refs_after}
 use Rattle.server_rules.specs.DeedResult.{deed_result}
@@ -45,30 +46,30 @@ LacksMemory deed old result = (g : Ground) (q : TenantState) (s : Store) → IsR
 
 -- The same of what a form asks. The table of refs serves the tenant before and behind it.
 
-abbrev pub DoesAsk : {A : Type 0} → Actor → AskData → Tenant → Tenant
+abbrev pub DoesAsk : {A : Type 0} → Actor → Ask → Tenant → Tenant
     → RingRefTable → RingRefTable → Result A Refusal → (A → StepAnswer) → Type 0
 DoesAsk a ask old new table_old table_new result answer =
     (g : Ground) (q : TenantState) (s : Store) (r : Refs) → IsRight g
     → StandsForState g old q s → TableServes table_old s r
-    → let d = deed_result g s q (asks_for a ask) in
+    → let d = deed_result g s q (asks_for a (ask_view ask)) in
     IfOk result (λ x. AcceptsDeedBy g a q d new (answer x)
     × TableServes table_new d.store (refs_after d.store r))
 
-abbrev pub DeclinesAsk : {A : Type 0} → Actor → AskData → Tenant → Tenant
+abbrev pub DeclinesAsk : {A : Type 0} → Actor → Ask → Tenant → Tenant
     → RingRefTable → RingRefTable → Result A Refusal → Type 0
 DeclinesAsk a ask old new table_old table_new result =
     (g : Ground) (q : TenantState) (s : Store) (r : Refs) → IsRight g
     → StandsForState g old q s → TableServes table_old s r
-    → let d = deed_result g s q (asks_for a ask) in
+    → let d = deed_result g s q (asks_for a (ask_view ask)) in
     IfErr result (λ why. RefusesDeed g q s d new why × TableServes table_new s r)
 
-abbrev pub AskLacksMemory : {A : Type 0} → Actor → AskData → Tenant → RingRefTable
+abbrev pub AskLacksMemory : {A : Type 0} → Actor → Ask → Tenant → RingRefTable
     → Result A Refusal → Type 0
 AskLacksMemory a ask old table_old result =
     (g : Ground) (q : TenantState) (s : Store) (r : Refs)
     → StandsForState g old q s → TableServes table_old s r
     → result ≡ Err Refusal.NoMemory
-    → is_accepted (deed_result g s q (asks_for a ask)).outcome ≡ true
+    → is_accepted (deed_result g s q (asks_for a (ask_view ask))).outcome ≡ true
 
 -- The same of the end of the form that runs, by the job and the trace that are kept of it.
 

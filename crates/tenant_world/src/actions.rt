@@ -22,8 +22,8 @@ use server_rules::{Actor, Refusal};
 use std::alloc::{AllocError, Global};
 use std::collections::VecDeque;
 use std::sync::{Arc, ArcStr};
-use tenant_asks::{Remembered, Outgoing, Sender, send_all, sends_in};
-use tenant_parts::{ActorState, WorkInHand, Manner, Run};
+use tenant_asks::{Outgoing, Remembered, Sender, send_all, sends_in};
+use tenant_parts::{ActorState, Manner, Run, WorkInHand};
 
 /// The action that begins next, and the state of its agent.
 #[derive(Clone, Copy)]
@@ -135,8 +135,8 @@ fn hand_of(alloc: Global, next: NextAction<'_>, job: Job) -> Result<WorkInHand, 
     })
 }
 
-/// What the end of the form in hand makes of the agents, with room for what is sent. It takes a
-/// step for each ask of an action, fails only for want of memory, and changes nothing yet.
+/// What the end of the form in hand makes of the agents, with room for what is sent. It looks at
+/// each ask of an action, fails only for want of memory, and changes nothing yet.
 pub(crate) fn prepare_end(
     alloc: Global,
     agents: &mut Agents,

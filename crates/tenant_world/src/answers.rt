@@ -56,7 +56,7 @@ impl StartAnswer {
         matches!(self, StartAnswer::Interrupted)
     }
 
-    // The same once more. It takes one step, and fails only where 2^63 owners share a part of it.
+    // The same once more. It takes constant time, and fails only where 2^63 owners share a part of it.
     fn copy(&self) -> Result<StartAnswer, AllocError>
         ensures { IfOk result (λ copied. start_answer_view copied ≡ start_answer_view self.now) }
     {

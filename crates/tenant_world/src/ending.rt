@@ -7,8 +7,7 @@ ghost use Rattle.server_rules.specs.Request as rules;
 ghost use Rattle.ref_table.specs.Store.{Store};
 ghost use Rattle.server_rules.specs.Tenant.{TenantState};
 ghost use Rattle.server_rules.specs.Ending.{end_of, end_accepted};
-ghost use Rattle.tenant_parts.specs.Aside.{printed_in};
-ghost use Rattle.tenant_parts.specs.Printed.{PrintsEnd};
+ghost use Rattle.tenant_parts.specs.Spelled.{SpellsEnd};
 ghost use Rattle.tenant_parts.specs.View.{actor_view, run_view};
 ghost use Rattle.server_rules.specs.Grounds.{IsRight};
 ghost use Rattle.server_rules.specs.DeedResult.{carried_out};
@@ -45,7 +44,7 @@ pub(crate) fn end(
     ending: &Ending<'_>,
     aside: &mut Aside,
 ) -> Result<EndAnswer, Refusal>
-    requires { PrintsEnd (printed_in aside.old) (told_ending ending.now).end }
+    requires { SpellsEnd aside.old.spelled (told_ending ending.now).end }
     ensures acted { (g : Ground) (q : TenantState) (s : Store) → IsRight g
         → Remembers g s.tenant memory.old q → Reaches attempts.old s
         → let d = carried_out s (end_of g actor (actor_view state.old) (told_ending ending.now) q
@@ -88,7 +87,7 @@ pub(crate) fn finish(
     finished: &Finished,
     aside: &mut Aside,
 ) -> Result<EndAnswer, Refusal>
-    requires { PrintsEnd (printed_in aside.old) (finished_view finished.now) }
+    requires { SpellsEnd aside.old.spelled (finished_view finished.now) }
     ensures acted { (g : Ground) (q : TenantState) (s : Store) (e : EndingData)
         → e.end ≡ finished_view finished.now → PassesComparison g (actor_view state.old) q e
         → Remembers g s.tenant memory.old q → Reaches attempts.old s
@@ -130,7 +129,11 @@ pub(crate) fn finish(
 
 // Whether the ending may be that of the form that runs. Where the form's end is interrupted or held
 // back whatever it is, nothing is compared.
-fn compare_if_due(memory: &Remembered, state: &ActorState, ending: &Ending<'_>) -> Result<(), Refusal>
+fn compare_if_due(
+    memory: &Remembered,
+    state: &ActorState,
+    ending: &Ending<'_>,
+) -> Result<(), Refusal>
     ensures free { IfErr result (λ why. why ≢ Refusal.Held) }
     ensures frugal { IfErr result (λ why. why ≢ Refusal.NoMemory) }
     ensures passed { (g : Ground) (t : ℕ) (q : TenantState) → IsRight g → Remembers g t memory.now q
@@ -184,7 +187,7 @@ fn accept(
     finished: &Finished,
     aside: &mut Aside,
 ) -> Result<(), AllocError>
-    requires { PrintsEnd (printed_in aside.old) (finished_view finished.now) }
+    requires { SpellsEnd aside.old.spelled (finished_view finished.now) }
     ensures acted { (g : Ground) (q : TenantState) (s : Store) (h : rules.WorkInHand) (run : rules.Run)
         (e : EndingData) → e.end ≡ finished_view finished.now
         → Remembers g s.tenant memory.old q → (actor_view state.old).hand ≡ Some h
@@ -203,7 +206,8 @@ fn accept(
     };
     let agents = &mut memory.cells.agents;
     let end = prepare_end(alloc, agents, actor, hand, finished.end())?;
-    let (effects, after) = form_end(alloc, hand, finished, aside.printed(), session)?;
+    let replies = aside.replies_to(&*hand.origin);
+    let (effects, after) = form_end(alloc, hand, finished, replies, session)?;
     post_effects(memory, actor, effects)?;
     settle_end(&mut memory.cells.agents, end);
     aside.left = put_after(state, after);

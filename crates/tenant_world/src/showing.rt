@@ -3,11 +3,12 @@ ghost use Rattle.std.specs.Prelude.{◌≡◌, ◌≢◌, ◌+◌, ◌<◌, ℕ,
 ghost use Rattle.std.specs.Prelude.{OnErr, MatchOption, IfSome, true, false, option_copied};
 ghost use Rattle.name_spaces.specs.Inside.Seen.{shared_bindings};
 ghost use Rattle.server_rules.specs.Ground.{Ground};
-ghost use Rattle.server_rules.specs.Tenant.{TenantState, opened_state};
+ghost use Rattle.server_rules.specs.Tenant.{TenantState, opened_state, actor_state};
 ghost use Rattle.server_rules.specs.Machine.Ready.{ready};
 ghost use Rattle.server_rules.specs.Plan as deeds;
 ghost use Rattle.server_rules.specs.Plan.{reply_given};
-ghost use Rattle.tenant_parts.specs.Ahead.{next_text_of, tells_value_of};
+ghost use Rattle.tenant_parts.specs.Ahead.{next_text_of, IsAddressee};
+ghost use Rattle.std.specs.Arc.{arc_str_bytes};
 ghost use Rattle.tenant_parts.specs.View.{run_view, actors_view};
 ghost use Rattle.server_rules.specs.Grounds.{IsRight};
 ghost use Rattle.ref_table.specs.Store.{Store};
@@ -26,10 +27,12 @@ use bencode_wire::laws::a_stream_has_one_reading;
 use name_spaces::{SharedNames, Spaces};
 use private_cells::{Agents, Atoms};
 use repl_sessions::{IdStream, SessionState, Sessions};
+use repl_values::copy_text;
 use server_rules::{Actor, MESSAGE_LIMIT, Refusal, Wire};
 use std::alloc::{AllocError, Global};
+use std::sync::{Arc, ArcStr};
 use tenant_asks::{Cells, Remembered};
-use tenant_parts::{Actors, Attempts, Outbox, Run};
+use tenant_parts::{Actors, Addressee, Attempts, Manner, Outbox, Run};
 
 impl Tenant {
     ghost use Rattle.tenant_world.specs.Standing.{StandsForState, AcceptsDeed, RefusesDeed};
@@ -118,8 +121,8 @@ impl Tenant {
         }
     }
 
-    /// The first actor that has a form or a request to begin. It takes a step for each that has
-    /// something to do, up to that one, and no memory.
+    /// The first actor that has a form or a request to begin. It looks at each that has something to
+    /// do, up to that one, and takes no memory.
     pub fn ready(&self) -> Option<Actor>
         ensures { (g : Ground) (q : TenantState) (s : Store) → StandsForState g self.now q s
             → result ≡ ready q }
@@ -128,8 +131,7 @@ impl Tenant {
     }
 
     /// The actors of a round, in order: those that have something to do, or all where there may not
-    /// be a step for each of these. It takes a step for each of them, and fails only for want of
-    /// memory.
+    /// be a step for each of these. It looks at each of them, and fails only for want of memory.
     pub fn round(&self, alloc: Global) -> Result<Vec<Actor>, AllocError>
         ensures { (g : Ground) (l : LoneTenant) → StandsForState g self.now l.state l.store
             → IfOk result (λ actors. IsEnough l actors.items) }
@@ -158,13 +160,43 @@ impl Tenant {
         self.actors.get(actor)?.next_text()
     }
 
-    /// Whether the value of an actor's form is told when the form ends.
-    pub fn tells_value(&self, actor: Actor) -> bool
-        ensures { result ≡ tells_value_of actor (actors_view self.now.actors) }
+    /// To whom and how it is told that the form of an actor ended, if something of it is in hand. None
+    /// also where a file's session was closed, and where 2^63 owners share the request.
+    pub fn addressee(&self, actor: Actor) -> Option<Addressee>
+        ensures { (g : Ground) (q : TenantState) (s : Store) → StandsForState g self.now q s
+            → IfSome result (IsAddressee actor q) }
     {
-        match self.actors.get(actor) {
-            Some(state) => state.tells_value(),
-            None => false,
+        let state = self.actors.get(actor)?;
+        let hand = state.hand.as_ref()?;
+        let hears_value = state.tells_value();
+        let Ok(origin) = Arc::try_clone(&hand.origin) else {
+            return None;
+        };
+        match &hand.manner {
+            Manner::LastForm(_) => {
+                let namespace = self.session_namespace(actor)?;
+                Some(Addressee {
+                    origin,
+                    namespace: Some(namespace),
+                    hears_value,
+                })
+            }
+            Manner::EachForm | Manner::EachFormElsewhere | Manner::OfAction(_) => Some(Addressee {
+                origin,
+                namespace: None,
+                hears_value,
+            }),
+        }
+    }
+
+    // The namespace of an actor's session.
+    fn session_namespace(&self, actor: Actor) -> Option<ArcStr>
+        ensures { (g : Ground) (q : TenantState) (s : Store) → StandsForState g self.now q s
+            → IfSome result (λ text. arc_str_bytes text ≡ (actor_state actor q).namespace) }
+    {
+        match copy_text(&self.memory.shown(actor)?.namespace) {
+            Ok(namespace) => Some(namespace),
+            Err(_) => None,
         }
     }
 

@@ -25,8 +25,10 @@ use repl_asks::Job;
 use server_rules::{Actor, Refusal};
 use std::alloc::{AllocError, Global};
 use tenant_asks::{Remembered, interrupt};
-use tenant_moves::{Begun, BegunRequest, RequestEffects, NextForm, begin, begin_request, next_form};
-use tenant_parts::{ActorState, Aside, WorkInHand, Left, Waiting};
+use tenant_moves::{
+    Begun, BegunRequest, NextForm, RequestEffects, begin, begin_request, next_form,
+};
+use tenant_parts::{ActorState, Aside, Left, Waiting, WorkInHand};
 
 /// The actor begins its next form, or takes up its next request. Where it is refused nothing has
 /// changed.
@@ -133,7 +135,11 @@ fn enter_form(
 
 /// Lets the replies to a request wait, and puts the state in that its session then has. It fails
 /// only for want of memory, and then changes nothing.
-pub(crate) fn post_effects(memory: &mut Remembered, actor: Actor, effects: RequestEffects) -> Result<(), AllocError>
+pub(crate) fn post_effects(
+    memory: &mut Remembered,
+    actor: Actor,
+    effects: RequestEffects,
+) -> Result<(), AllocError>
     ensures taken { (g : Ground) (t : ℕ) (q : TenantState) (m : Move) → Remembers g t memory.old q
         → TellsMove m effects → OnOk result (Remembers g t memory.new
         (with_replies m.replies (with_state actor m.state q))) }
@@ -207,14 +213,11 @@ fn start_request(
         return Err(Refusal::Held);
     }
     let session = memory.first_state(alloc, actor)?;
-    let BegunRequest { effects, hand, given } = begin_request(
-        alloc,
-        retries,
-        &memory.spaces,
-        waiting,
-        session,
-        aside,
-    )?;
+    let BegunRequest {
+        effects,
+        hand,
+        given,
+    } = begin_request(alloc, retries, &memory.spaces, waiting, session, aside)?;
     let answers = StartAnswers::of(answer_of(given))?;
     post_effects(memory, actor, effects)?;
     leave_request(aside, put_next_in_hand(state, hand));

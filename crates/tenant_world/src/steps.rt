@@ -1,6 +1,5 @@
 // The steps of a tenant's actors.
-ghost use Rattle.std.specs.Prelude.{◌≡◌, ◌+◌, ◌<◌, ◌≤◌, IfOk, OnErr};
-ghost use Rattle.repl_asks.specs.Inside.View.{ask_view};
+ghost use Rattle.std.specs.Prelude.{◌≡◌, ◌+◌, ◌<◌, IfOk};
 ghost use Rattle.repl_asks.specs.Inside.Jobs.{finished_view};
 ghost use Rattle.server_rules.specs.Ground.{Ground};
 ghost use Rattle.ref_table.specs.Store.{Store};
@@ -11,9 +10,9 @@ ghost use Rattle.tenant_world.specs.Answers.{start_answer_view, end_answer_view}
 ghost use Rattle.tenant_asks.specs.Answers.{ask_answer_view, AreSameAnswers};
 ghost use Rattle.tenant_world.specs.Answers.{told_ending, AreSameStarts};
 ghost use Rattle.tenant_asks.specs.Acting.{actors_after};
-ghost use Rattle.tenant_parts.specs.Aside.{printed_in};
-ghost use Rattle.tenant_parts.specs.Printed.{PrintsEnd};
+ghost use Rattle.tenant_parts.specs.Spelled.{SpellsEnd};
 ghost use Rattle.tenant_parts.specs.Attempts.{Reaches};
+ghost use Rattle.tenant_parts.specs.Promises.{CountsOne};
 ghost use Rattle.tenant_asks.specs.Memories.{Remembers};
 
 use crate::answers::{EndAnswer, Ending, StartAnswer, StartAnswers};
@@ -72,20 +71,18 @@ impl Tenant {
         &mut self,
         refs: &mut RefTable<RingHistory>,
         actor: Actor,
-        asked: &Ask,
+        question: &Ask,
     ) -> Result<AskAnswer, Refusal>
         requires { counter_of refs.old < u128.MAX }
-        ensures done { DoesAsk actor (ask_view asked.now) self.old self.new refs.old refs.new
-            result ask_answer_view }
-        ensures refused { DeclinesAsk actor (ask_view asked.now) self.old self.new refs.old
-            refs.new result }
-        ensures no_memory { AskLacksMemory actor (ask_view asked.now) self.old refs.old result }
+        ensures done { DoesAsk actor question.now self.old self.new refs.old refs.new result
+            ask_answer_view }
+        ensures refused { DeclinesAsk actor question.now self.old self.new refs.old refs.new result }
+        ensures no_memory { AskLacksMemory actor question.now self.old refs.old result }
         ensures counted { CountsStep self.old self.new result }
-        ensures counter { counter_of refs.new ≤ counter_of refs.old + 1 }
-        ensures failed { OnErr result (counter_of refs.new ≡ counter_of refs.old) }
+        ensures commits { CountsOne refs.old refs.new result }
     {
         Ok(
-            self.answer_copied(refs, actor, asked, &mut Aside::nothing())?
+            self.answer_copied(refs, actor, question, &mut Aside::nothing())?
                 .given,
         )
     }
@@ -95,19 +92,17 @@ impl Tenant {
         &mut self,
         refs: &mut RefTable<RingHistory>,
         actor: Actor,
-        asked: &Ask,
+        question: &Ask,
         aside: &mut Aside,
     ) -> Result<AskAnswers, Refusal>
         requires { counter_of refs.old < u128.MAX }
-        ensures done { DoesAsk actor (ask_view asked.now) self.old self.new refs.old refs.new
-            result (λ it. ask_answer_view it.given) }
-        ensures refused { DeclinesAsk actor (ask_view asked.now) self.old self.new refs.old
-            refs.new result }
-        ensures no_memory { AskLacksMemory actor (ask_view asked.now) self.old refs.old result }
+        ensures done { DoesAsk actor question.now self.old self.new refs.old refs.new result
+            (λ it. ask_answer_view it.given) }
+        ensures refused { DeclinesAsk actor question.now self.old self.new refs.old refs.new result }
+        ensures no_memory { AskLacksMemory actor question.now self.old refs.old result }
         ensures same { IfOk result AreSameAnswers }
         ensures counted { CountsStep self.old self.new result }
-        ensures counter { counter_of refs.new ≤ counter_of refs.old + 1 }
-        ensures failed { OnErr result (counter_of refs.new ≡ counter_of refs.old) }
+        ensures commits { CountsOne refs.old refs.new result }
     {
         let state = lend(&mut self.actors, self.steps, actor)?;
         let answered = ask(
@@ -117,7 +112,7 @@ impl Tenant {
             &mut self.attempts,
             actor,
             state,
-            asked,
+            question,
         )?;
         self.settle(actor, answered.given.is_interrupted(), aside);
         Ok(answered)
@@ -130,7 +125,7 @@ impl Tenant {
         ending: &Ending<'_>,
         aside: &mut Aside,
     ) -> Result<EndAnswer, Refusal>
-        requires { PrintsEnd (printed_in aside.old) (told_ending ending.now).end }
+        requires { SpellsEnd aside.old.spelled (told_ending ending.now).end }
         ensures done { DoesBy actor (ends actor (told_ending ending.now)) self.old self.new
             result end_answer_view }
         ensures refused { Declines (ends actor (told_ending ending.now)) self.old self.new result }
@@ -159,7 +154,7 @@ impl Tenant {
         finished: &Finished,
         aside: &mut Aside,
     ) -> Result<EndAnswer, Refusal>
-        requires { PrintsEnd (printed_in aside.old) (finished_view finished.now) }
+        requires { SpellsEnd aside.old.spelled (finished_view finished.now) }
         ensures done { DoesEnd actor (finished_view finished.now) self.old self.new result
             end_answer_view }
         ensures refused { DeclinesEnd actor (finished_view finished.now) self.old self.new result }

@@ -21,7 +21,7 @@ returns-then-is_last c =
     let e = finished_view c.args.finished.now in
     let d = view c.args.value.now in
     let h : WorkInHand = record here { manner = last_form d; namespace = e.namespace } in
-    let mid : RequestEffects = record c.args.effects.now { batch = c.add_output.new.self } in
+    let mid : RequestEffects = record c.args.effects.now { batch = c.add_printed.new.self } in
     let s = told_state c.args.effects.now in
     let P : Datum → Type 0 = λ x. Adds (closing_move h.origin (last_form x) h.fault s)
     mid c.end_request.new.self in
@@ -32,6 +32,6 @@ returns-then-is_last c =
     let Q : Origin → List ℕ → Type 0 = λ o text. told_bytes mid ≡ told_bytes c.args.effects.now
     ++ map bytes_of (output_replies (origin_view o) text) in
     let told = subst (λ o. Q o e.text) c.deref.ensures
-    (subst (Q c.deref.result.now) c.text.ensures c.in_ok-add_output.ensures) in
+    (subst (Q c.deref.result.now) c.text.ensures c.in_ok-add_printed.ensures) in
     ends-behind (output_replies here.origin e.text) f s here
     c.args.effects.now mid c.end_request.new.self _ told refl over

@@ -1,8 +1,7 @@
 use Rattle.repl_core.specs.Steps.{step_view}
-use Rattle.tenant_parts.specs.Aside.{printed_in}
-use Rattle.journal_book.proofs.Printing.{not-printed}
+use Rattle.journal_book.proofs.Spelling.{not-spelled}
 use Rattle.journal_book.proofs.book.Book.act.Goals as goal
 
-pub act_with-requires-clause-printed : goal.act_with-requires-clause-printed
-act_with-requires-clause-printed g c =
-    not-printed (printed_in c.nothing.result.aside) (step_view c.args.step) c.nothing.ensures
+pub act_with-requires-clause-spelled : goal.act_with-requires-clause-spelled
+act_with-requires-clause-spelled g c =
+    not-spelled c.nothing.result.aside.spelled (step_view c.args.step) c.nothing.ensures

@@ -1,8 +1,7 @@
 use Rattle.repl_core.specs.Steps.{step_view}
-use Rattle.tenant_parts.specs.Aside.{printed_in}
-use Rattle.journal_book.proofs.Printing.{not-printed}
+use Rattle.journal_book.proofs.Spelling.{not-spelled}
 use Rattle.knowing_book.proofs.book.KnowingBook.act.Goals as goal
 
-pub make-requires-clause-printed : goal.make-requires-clause-printed
-make-requires-clause-printed g c =
-    not-printed (printed_in c.nothing.result.aside) (step_view c.args.step) c.nothing.ensures
+pub make-requires-clause-spelled : goal.make-requires-clause-spelled
+make-requires-clause-spelled g c =
+    not-spelled c.nothing.result.aside.spelled (step_view c.args.step) c.nothing.ensures

@@ -28,5 +28,5 @@ make-requires-clause-as_told g c = λ is.
     (c.shares-is_known.ensures is) in
     subst (λ book. form_told t a (entries book.journal) ≡ Some form) c.self.view_is told
 
-pub make-requires-clause-printed : goal.make-requires-clause-printed
-make-requires-clause-printed g c = c.finish.invariant.1
+pub make-requires-clause-spelled : goal.make-requires-clause-spelled
+make-requires-clause-spelled g c = c.finish.invariant.1
