@@ -37,6 +37,24 @@ pub fn pipe<R: Source, W: Sink>(
     reader: &mut R,
     writer: &mut W,
 ) -> Result<PipeEnd, PipeError>
+    ensures served { ServesStream config
+        (input (R.remaining reader.old) (R.failed reader.old) (R.reads reader.old))
+        (input (R.remaining reader.new) (R.failed reader.new) (R.reads reader.new))
+        (output (W.contents writer.old) (W.passed writer.old) (W.failed writer.old))
+        (output (W.contents writer.new) (W.passed writer.new) (W.failed writer.new)) result }
+    ensures fault { (fault : Fault) → result ≡ Err (PipeError.SharedText fault)
+        → TextFaults config (failure_of fault) }
+{
+    serve_first(alloc, config, reader, writer)
+}
+
+// Serves the stream as the first tenant of a server that begins so.
+fn serve_first<R: Source, W: Sink>(
+    alloc: Global,
+    config: Config,
+    reader: &mut R,
+    writer: &mut W,
+) -> Result<PipeEnd, PipeError>
     ensures served { (g : Ground) → IsConfigured g config → IsPipeOutcome g (opened_lone g)
         (R.remaining reader.old) (R.remaining reader.new)
         (W.contents writer.old) (W.contents writer.new) result }

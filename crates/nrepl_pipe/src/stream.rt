@@ -55,8 +55,9 @@ pub fn serve_stream<C: Core, R: Source, W: Sink>(
         (W.failed writer.old) (W.failed writer.new) result }
     ensures no_text { is_text_fault result ≡ false }
 {
+    let mut buffer = [0u8; PIECE];
     loop {
-        let Some(piece) = next_piece(alloc, reader, writer)? else {
+        let Some(piece) = next_piece(alloc, reader, writer, &mut buffer)? else {
             return Ok(end_of(core));
         };
         if let HearAnswer::Worn = hear_piece(core, &piece)? {
@@ -82,11 +83,12 @@ fn end_of<C: Core>(core: &C) -> PipeEnd
     }
 }
 
-// The next piece; none at the end of the input.
+// The next piece, read into this buffer; none at the end of the input.
 fn next_piece<R: Source, W: Sink>(
     alloc: Global,
     reader: &mut R,
     writer: &W,
+    buffer: &mut [u8; PIECE],
 ) -> Result<Option<Bytes>, PipeError>
     ensures ok { IfOk result (λ next. MatchOption next
         (Consumes (R.remaining reader.old) (R.remaining reader.new) []
@@ -104,8 +106,7 @@ fn next_piece<R: Source, W: Sink>(
       passed = W.passed writer.now;
     } ∷ []) }
 {
-    let mut buffer = [0u8; PIECE];
-    match reader.read_bytes(writer, &mut buffer) {
+    match reader.read_bytes(writer, buffer) {
         Ok(0) => Ok(None),
         Ok(n) => Ok(Some(Bytes::copy_from_slice(alloc, &buffer[..n])?)),
         Err(_) => Err(PipeError::ReadFailed),
