@@ -64,12 +64,10 @@ pub fn call_in_action(
 fn refuse_awaiting(alloc: Global, call: Call) -> Result<Call, AllocError>
     ensures { IfOk result (λ allowed. call_view allowed ≡ meant.unless_awaited (call_view call)) }
 {
-    match call {
-        Call::AsksPermission(Ask::Await(_), _) => {
-            Ok(Call::Refused(broken_rule(alloc, Rule::NoAwaitInAction)?))
-        }
-        other => Ok(other),
+    if let Call::AsksPermission(Ask::Await(_), _) = &call {
+        return Ok(Call::Refused(broken_rule(alloc, Rule::NoAwaitInAction)?));
     }
+    Ok(call)
 }
 
 #[tactic(auto, using(crate::proofs::Taken::calls))]

@@ -91,11 +91,13 @@ fn narrow_entry(
         ≡ entry_of (does tenant (asks_for actor ask)) (ask_answer_view answer) }
 {
     match answer {
-        AskAnswer::Answer(Answer::Resolution(resolution)) => {
-            narrow.resolution = resolution;
-            JournalEntry::Resolved(tenant, actor, narrow)
+        AskAnswer::Answer(answer) => {
+            if let Answer::Resolution(_) = &answer {
+                narrow.resolution = answer.into_resolution();
+                return JournalEntry::Resolved(tenant, actor, narrow);
+            }
+            wide_entry(tenant, actor, wide, AskAnswer::Answer(answer))
         }
-        AskAnswer::Answer(answer) => wide_entry(tenant, actor, wide, AskAnswer::Answer(answer)),
         AskAnswer::Interrupted => wide_entry(tenant, actor, wide, AskAnswer::Interrupted),
     }
 }
@@ -137,7 +139,8 @@ pub(crate) fn end_entry(
     ending: Box<Ending>,
     answer: EndAnswer,
 ) -> (JournalEntry, Option<Box<Ending>>)
-    ensures finished { answer ≡ EndAnswer.Finished → result.0 ≡ JournalEntry.Ended tenant actor noted }
+    ensures finished { answer ≡ EndAnswer.Finished
+        → result.0 ≡ JournalEntry.Ended tenant actor noted }
     ensures interrupted { answer ≡ EndAnswer.Interrupted
         → result.0 ≡ JournalEntry.Interrupted tenant actor ending }
 {

@@ -59,7 +59,7 @@ pub enum Permission {
 }
 
 /// What the store answers.
-#[derive(Debug, Drop)]
+#[derive(Debug)]
 pub enum Answer {
     Resolution(Resolution),
     /// What was asked for is done, and gives no value.
@@ -68,6 +68,19 @@ pub enum Answer {
     Reading(Reading),
     Verdict(Verdict),
     Permission(Permission),
+}
+
+impl Drop for Answer {
+    fn drop(self) {
+        match self {
+            Answer::Resolution(_it) => {}
+            Answer::Done => {}
+            Answer::Value(_it) => {}
+            Answer::Reading(_it) => {}
+            Answer::Verdict(_it) => {}
+            Answer::Permission(_it) => {}
+        }
+    }
 }
 
 impl NamedFunction {

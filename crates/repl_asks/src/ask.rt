@@ -13,7 +13,7 @@ use std::alloc::AllocError;
 use std::sync::{Arc, ArcStr};
 
 /// What a form asks next.
-#[derive(Debug, Drop)]
+#[derive(Debug)]
 pub enum Ask {
     /// What a symbol names in a namespace. Answered by a resolution.
     Resolve {
@@ -91,11 +91,75 @@ pub enum Ask {
     Await(Arc<Vec<u64>>),
 }
 
+impl Drop for Ask {
+    fn drop(self) {
+        match self {
+            Ask::Resolve {
+                namespace: _namespace,
+                symbol: _symbol,
+            } => {}
+            Ask::Define {
+                namespace: _namespace,
+                name: _name,
+                binding: _binding,
+            } => {}
+            Ask::Enter(_it) => {}
+            Ask::NewRef {
+                value: _value,
+                min_history: _min_history,
+                max_history: _max_history,
+            } => {}
+            Ask::Begin => {}
+            Ask::Read(_it) => {}
+            Ask::History(_it) => {}
+            Ask::MinHistory {
+                name: _name,
+                set: _set,
+            } => {}
+            Ask::MaxHistory {
+                name: _name,
+                set: _set,
+            } => {}
+            Ask::Commit(_it) => {}
+            Ask::NewAtom(_it) => {}
+            Ask::ReadAtom(_it) => {}
+            Ask::SetAtom {
+                number: _number,
+                value: _value,
+            } => {}
+            Ask::TryAtom {
+                number: _number,
+                seen: _seen,
+                next: _next,
+            } => {}
+            Ask::NewAgent(_it) => {}
+            Ask::ReadAgent(_it) => {}
+            Ask::AgentFault(_it) => {}
+            Ask::RestartAgent {
+                number: _number,
+                state: _state,
+            } => {}
+            Ask::Send(_it) => {}
+            Ask::MaySend(_it) => {}
+            Ask::Await(_it) => {}
+        }
+    }
+}
+
 /// What a name is bound to.
-#[derive(Debug, Drop)]
+#[derive(Debug)]
 pub enum Binding {
     Value(Value),
     Function(Arc<Function>),
+}
+
+impl Drop for Binding {
+    fn drop(self) {
+        match self {
+            Binding::Value(_it) => {}
+            Binding::Function(_it) => {}
+        }
+    }
 }
 
 /// What an answer can be.

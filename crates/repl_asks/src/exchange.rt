@@ -7,10 +7,19 @@ use crate::ask::Ask;
 use std::alloc::{AllocError, Global};
 
 /// An ask with its answer.
-#[derive(Debug, Drop)]
+#[derive(Debug)]
 pub struct Exchange {
     pub ask: Ask,
     pub answer: Answer,
+}
+
+impl Drop for Exchange {
+    fn drop(self) {
+        let Exchange {
+            ask: _ask,
+            answer: _answer,
+        } = self;
+    }
 }
 
 /// The exchanges of an evaluation so far, in order.

@@ -4,7 +4,7 @@ use core_functions::CoreFunction;
 use repl_values::{RefName, Value};
 
 /// What an attempt wants committed.
-#[derive(Debug, Drop)]
+#[derive(Debug)]
 pub struct Intent {
     /// The refs that were set, each once, with its last value.
     pub sets: Vec<Change>,
@@ -17,25 +17,63 @@ pub struct Intent {
     pub sends: Vec<Sending>,
 }
 
+impl Drop for Intent {
+    fn drop(self) {
+        let Intent {
+            sets: _sets,
+            ensured: _ensured,
+            commuted: _commuted,
+            sends: _sends,
+        } = self;
+    }
+}
+
 /// A ref, and the value that it gets.
-#[derive(Debug, Drop)]
+#[derive(Debug)]
 pub struct Change {
     pub name: RefName,
     pub now: Value,
 }
 
+impl Drop for Change {
+    fn drop(self) {
+        let Change {
+            name: _name,
+            now: _now,
+        } = self;
+    }
+}
+
 /// A ref, and what is applied to the value that it has when the attempt is committed.
-#[derive(Debug, Drop)]
+#[derive(Debug)]
 pub struct Commuted {
     pub name: RefName,
     /// In order: each is applied to what the one before it gave.
     pub commutes: Vec<Commute>,
 }
 
+impl Drop for Commuted {
+    fn drop(self) {
+        let Commuted {
+            name: _name,
+            commutes: _commutes,
+        } = self;
+    }
+}
+
 /// A function that is applied to the value of a ref.
-#[derive(Debug, Drop)]
+#[derive(Debug)]
 pub struct Commute {
     pub function: CoreFunction,
     /// Those behind the value of the ref.
     pub arguments: Vec<Value>,
+}
+
+impl Drop for Commute {
+    fn drop(self) {
+        let Commute {
+            function: _function,
+            arguments: _arguments,
+        } = self;
+    }
 }

@@ -8,7 +8,7 @@ use std::alloc::{AllocError, Global};
 use std::sync::{Arc, ArcStr};
 
 /// What there is to evaluate.
-#[derive(Debug, Drop)]
+#[derive(Debug)]
 pub enum Work {
     Form(Value),
     /// A form of the text of the namespace that all tenants share.
@@ -17,13 +17,33 @@ pub enum Work {
     Action(Value, Arc<Task>),
 }
 
+impl Drop for Work {
+    fn drop(self) {
+        match self {
+            Work::Form(_it) => {}
+            Work::SharedForm(_it) => {}
+            Work::Action(_state, _task) => {}
+        }
+    }
+}
+
 /// An evaluation: its work, the namespace in which it begins, and how many attempts a transaction
 /// has.
-#[derive(Debug, Drop)]
+#[derive(Debug)]
 pub struct Job {
     pub work: Work,
     pub namespace: ArcStr,
     pub retries: u32,
+}
+
+impl Drop for Job {
+    fn drop(self) {
+        let Job {
+            work: _work,
+            namespace: _namespace,
+            retries: _retries,
+        } = self;
+    }
 }
 
 /// A value, or the fault that ended the evaluation.
@@ -34,11 +54,21 @@ pub enum End {
 }
 
 /// How an evaluation ended, the text that it printed, and the namespace after it.
-#[derive(Debug, Drop)]
+#[derive(Debug)]
 pub struct Finished {
     end: End,
     text: String,
     namespace: ArcStr,
+}
+
+impl Drop for Finished {
+    fn drop(self) {
+        let Finished {
+            end: _end,
+            text: _text,
+            namespace: _namespace,
+        } = self;
+    }
 }
 
 impl Work {

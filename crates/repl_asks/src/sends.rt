@@ -8,7 +8,7 @@ use std::alloc::AllocError;
 use std::sync::Arc;
 
 /// A function that is applied to the state of an agent.
-#[derive(Debug, Drop)]
+#[derive(Debug)]
 pub struct Task {
     /// As its symbol was resolved when it was sent.
     pub function: NamedFunction,
@@ -16,11 +16,29 @@ pub struct Task {
     pub arguments: Vec<Value>,
 }
 
+impl Drop for Task {
+    fn drop(self) {
+        let Task {
+            function: _function,
+            arguments: _arguments,
+        } = self;
+    }
+}
+
 /// What is sent to the agent with this number.
-#[derive(Debug, Drop)]
+#[derive(Debug)]
 pub struct Sending {
     pub agent: u64,
     pub task: Arc<Task>,
+}
+
+impl Drop for Sending {
+    fn drop(self) {
+        let Sending {
+            agent: _agent,
+            task: _task,
+        } = self;
+    }
 }
 
 impl Sending {

@@ -59,10 +59,11 @@ pub(crate) enum Told {
 }
 
 fn read(alloc: Global, replay: &mut Replay) -> Told {
-    match replay.ask(alloc, Ask::Read(FIRST)) {
-        Ok(Answer::Reading(Reading::Found(Value::Int(number)))) => Told::Int(number),
+    let answered = replay.ask(alloc, Ask::Read(FIRST));
+    match &answered {
+        Ok(Answer::Reading(Reading::Found(Value::Int(number)))) => Told::Int(*number),
         Ok(_other) => Told::Other,
-        Err(stop) => stop_told(&stop),
+        Err(stop) => stop_told(stop),
     }
 }
 

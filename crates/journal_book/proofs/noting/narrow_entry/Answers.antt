@@ -10,9 +10,3 @@ returns-in-Answer c = λ ask said wide narrow.
     c.wide_entry.ensures ask said wide
     ∙ ap (λ x. entry_of (does c.args.tenant (asks_for c.args.actor ask)) (ask_answer_view x))
     (sym c.in-Answer.is)
-
-pub returns-in-Interrupted : goal.returns-in-Interrupted
-returns-in-Interrupted c = λ ask said wide narrow.
-    c.wide_entry-in-Interrupted.ensures ask said wide
-    ∙ ap (λ x. entry_of (does c.args.tenant (asks_for c.args.actor ask)) (ask_answer_view x))
-    (sym c.in-Interrupted.is)
