@@ -4,7 +4,8 @@
     tools/acts.py [PROGRAM]
 
 `layer_bench`, or the program that is named, serves a stream as `serve` does, act by act, without
-a lock: ten of each form that takes long (heavy.py), and 2,000 small evals. Each figure is the
+a lock: ten of each form that takes long (heavy.py), 2,000 small evals, and one that makes
+99,000 refs. Each figure is the
 least of several runs, since what else the machine does can make any act wait. The last line is
 how long it takes to copy a message of 1 MB into new memory."""
 
@@ -19,7 +20,7 @@ from bencode import encoded
 TOP = os.path.dirname(os.path.dirname(os.path.abspath(__file__)))
 BENCH = f"{TOP}/crates/layer_bench/out/layer_bench"
 RUNS, TIMES, SMALL_EVALS = 5, 10, 2_000
-KINDS = ("hear", "start", "ask", "end", "drain", "leave")
+KINDS = ("hear", "start", "ask", "end", "drain", "leave", "refs")
 STREAMS = {
     "`(+ 1 2)`, 2,000 times": ["(+ 1 2)"] * SMALL_EVALS,
     "values, behind their definitions": [
@@ -30,13 +31,17 @@ STREAMS = {
     "texts of 1 MB": [heavy.KINDS["texts"]] * TIMES,
     "prints of 1 MB, behind a text of 1 MB": [heavy.LONG, *[heavy.KINDS["prints"]] * TIMES],
     "10,000 asks in each": [heavy.SMALL, *[heavy.KINDS["asks"]] * TIMES],
+    "99,000 refs, once": ["(count [" + "(ref 0) " * 99_000 + "])"],
 }
 
 
 def main(words):
     program = words[0] if words else BENCH
-    print("| Forms | A piece is heard | Start | Ask | End | A reply is taken out | Bye |")
-    print("|---|---|---|---|---|---|---|")
+    print(
+        "| Forms | A piece is heard | Start | Ask | End | A reply is taken out | Bye"
+        " | 256 refs are dropped |"
+    )
+    print("|---|---|---|---|---|---|---|---|")
     copies = []
     for name, forms in STREAMS.items():
         stream = b"".join(encoded({"op": "eval", "id": "1", "code": it}) for it in forms)

@@ -106,6 +106,7 @@ use Rattle.version_rings.specs.contracts.nodes.Nodes as nodes
 use Rattle.version_rings.specs.contracts.node_list.NodeList as node_list
 use Rattle.version_rings.specs.contracts.node.Joint as joint
 use Rattle.version_rings.specs.contracts.node.Ring as ring
+use Rattle.ref_table.specs.contracts.departed.Departed as departed
 use Rattle.ref_table.specs.contracts.directory.Directory as directory
 use Rattle.repl_core.specs.contracts.tenants.Tenants as tenants
 use Rattle.journal_book.specs.contracts.book.Book.TheInside as book_inside
@@ -645,13 +646,16 @@ history-send =
 directory-send : IsSend directory.the_row
 directory-send = search (sendable, crosses, maps.crosses) depth 40 fits 20000
 
+departed-send : IsSend departed.the_row
+departed-send = search (sendable, crosses) depth 40 fits 20000
+
 table-send : IsSend (ref_table.the_row history.the_row)
 table-send =
     declared_send (ref_table.the_type history.the_row) (
       search sendable,
       (
         directory-send,
-        (history-send, tt),
+        (departed-send, (history-send, tt)),
       ),
     )
 

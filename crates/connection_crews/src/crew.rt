@@ -45,7 +45,8 @@ pub struct Shift<L: Ledger> {
 impl<L: Ledger + Send + Sync, N: Naming + Send + Sync, G: Gate + Drop + Send + Sync> Crew<L, N, G> {
     /// Serves connections from the queue until it ends.
     pub fn serve_all<R: Threads + Wait + Sync>(&self, rt: &R, post: Post) -> Shift<L>
-        requires { IsSeatAt (receives_on post.from) post.ticket × (view post.ticket ≡ hand false 0) }
+        requires { IsSeatAt (receives_on post.from) post.ticket
+            × (view post.ticket ≡ hand false 0) }
     {
         let Post { from, mut ticket } = post;
         let mut seats = Vec::new(self.alloc);

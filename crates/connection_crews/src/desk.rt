@@ -109,8 +109,8 @@ impl Signs {
         }
     }
 
-    // Whether an await may be met that was not when so much had come: so many actions more ended, or
-    // some and no other ends soon; or a message came, which may close its session.
+    // Whether an await may be met that was not when so much had come: so many actions more ended,
+    // or some and no other ends soon; or a message came, which may close its session.
     fn may_meet(&self, seen: Seen, least: u64) -> bool {
         let ended = self.turns.came.wrapping_sub(seen.turns);
         let ends_none_soon = self.are_agents_at_rest || self.is_action_long;
@@ -216,9 +216,9 @@ impl Desk {
         signs.is_reading || 0 < signs.forms || 0 < signs.actions
     }
 
-    /// So many messages came. Each may be a request, or close a session that awaits. Answers who is to
-    /// go on: who read them begins what a single small one asks for, where another thread is free to
-    /// read.
+    /// So many messages came. Each may be a request, or close a session that awaits. Answers who is
+    /// to go on: who read them begins what a single small one asks for, where another thread is
+    /// free to read.
     pub(crate) fn note_messages<R: Wait>(&self, rt: &R, count: usize, is_small: bool) -> Call {
         if count == 0 {
             return Call::Nobody;
@@ -255,8 +255,8 @@ impl Desk {
         self.requested.notify_one();
     }
 
-    /// Waits until a message comes once more than so often, nobody reads, or the peer sends no more.
-    /// Answers whether it is now this thread that is to read.
+    /// Waits until a message comes once more than so often, nobody reads, or the peer sends no
+    /// more. Answers whether it is now this thread that is to read.
     pub(crate) fn wait_for_request<R: Wait>(&self, rt: &R, seen: u64) -> bool {
         let mut signs = self.signs.lock(rt);
         signs.requests.waiting = signs.requests.waiting.saturating_add(1);

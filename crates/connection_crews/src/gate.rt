@@ -2,8 +2,8 @@
 use repl_asks::Ask;
 use server_rules::Actor;
 
-/// Is called before each ask by the thread that evaluates, while it holds no lock. So a gate sees how
-/// evaluations overlap, and may hold one back.
+/// Is called before each ask by the thread that evaluates, while it holds no lock. So a gate sees
+/// how evaluations overlap, and may hold one back.
 pub trait Gate {
     fn pass(&self, tenant: u64, actor: Actor, ask: &Ask);
 

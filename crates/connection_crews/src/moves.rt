@@ -25,9 +25,12 @@ const PAUSES: u32 = 10;
 
 const TRIES_IN_A_ROW: u32 = 10;
 
-// The length of a text, in bytes, that may be read while others wait for the book. A longer one is read
-// before its request begins.
+// The length of a text, in bytes, that may be read while others wait for the book. A longer one is
+// read before its request begins.
 const SHORT_TEXT: usize = 2_048;
+
+// How many refs of tenants that are gone are dropped under one hold of the lock.
+const REFS_AT_ONCE: usize = 256;
 
 // The greatest length of a piece that is small, in bytes.
 const SMALL_PIECE: usize = 1_024;
@@ -394,7 +397,7 @@ pub(crate) fn locked<'b, L: Ledger, N: Naming, R: Wait>(
     book.lock(rt)
 }
 
-/// The tenant goes.
+/// The tenant goes, and its refs are dropped.
 pub(crate) fn bid_farewell<L: Ledger, N: Naming, R: Wait>(
     rt: &R,
     alloc: Global,
@@ -406,6 +409,24 @@ pub(crate) fn bid_farewell<L: Ledger, N: Naming, R: Wait>(
     let mut beside = Beside::nothing();
     let _is_gone = locked(rt, book).leave(seat, &mut beside).is_ok();
     beside.free(alloc);
+    drop_departed(rt, alloc, book);
+}
+
+// Drops what is left of the refs of tenants that are gone, some under each hold of the lock.
+fn drop_departed<L: Ledger, N: Naming, R: Wait>(
+    rt: &R,
+    alloc: Global,
+    book: &Mutex<KnowingBook<L, N>>,
+) {
+    let mut values = Vec::new(alloc);
+    // without that memory they are dropped under the lock
+    let _ = values.reserve(REFS_AT_ONCE);
+    for _held in 0..usize::MAX {
+        if !locked(rt, book).drop_departed(REFS_AT_ONCE, &mut values) {
+            return;
+        }
+        values.clear();
+    }
 }
 
 // Whether a text was read of this actor, and of so many bytes.

@@ -69,8 +69,8 @@ fn cut<L: Ledger, N: Naming, R: Wait, G: Gate>(
     Came::End
 }
 
-/// Reads on for a while from a peer whose stream has a fault, and looks at nothing: a socket that is
-/// closed while bytes wait in it loses what was just written to it.
+/// Reads on for a while from a peer whose stream has a fault, and looks at nothing: a socket that
+/// is closed while bytes wait in it loses what was just written to it.
 pub(crate) fn read_away(stream: &TcpStream) {
     let _ = stream.shutdown(Shutdown::Write);
     if stream

@@ -164,7 +164,8 @@ fn begin<
     requires { IsSeatAt (receives_on post.from) post.ticket × (view post.ticket ≡ hand false 0) }
 {
     let job = move || -> Shift<L>
-        requires { IsSeatAt (receives_on post.from) post.ticket × (view post.ticket ≡ hand false 0) }
+        requires { IsSeatAt (receives_on post.from) post.ticket
+            × (view post.ticket ≡ hand false 0) }
     { crew.serve_all(&rt, post) };
     running.push(thread::spawn(&rt, job)?)?;
     Ok(())

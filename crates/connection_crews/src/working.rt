@@ -14,7 +14,8 @@ use tenant_parts::ReadText;
 // thread reads on. An action that makes as many is long.
 const MOST_MOVES: u32 = 16;
 
-// The length of replies, in bytes, that a peer may be slow to read. Behind that another thread reads.
+// The length of replies, in bytes, that a peer may be slow to read. Behind that another thread
+// reads.
 const LONG_REPLIES: usize = 4_096;
 
 // How many agents an await may name for each end of an action behind which it is asked again.

@@ -25,12 +25,14 @@ pub record KeepsJournal (g : Ground) (m : Machine) (journal : List EntryData) : 
 -- so for whatever a server of this configuration stands on, and there is such
 abbrev pub KeepsFor : Config → Machine → List EntryData → Type 0
 KeepsFor config m journal =
-    ((g : Ground) × IsConfigured g config) × ((g : Ground) → IsConfigured g config → KeepsJournal g m journal)
+    ((g : Ground) × IsConfigured g config) × ((g : Ground) → IsConfigured g config
+    → KeepsJournal g m journal)
 
 -- the server to which the journal leads accepts the step, and answers so
 abbrev pub IsAnswered : Config → List EntryData → Step → StepAnswer → Type 0
 IsAnswered config journal s answer = (g : Ground) (w : World) → IsConfigured g config
-    → IsJournal g (opened_world g) journal w → (after : World) × (step g w s ≡ accepted after answer)
+    → IsJournal g (opened_world g) journal w
+    → (after : World) × (step g w s ≡ accepted after answer)
 
 -- the server to which the journal leads refuses the step so, unless for want of memory
 abbrev pub IsRefusedBehind : Config → List EntryData → Step → Refusal → Type 0
@@ -98,7 +100,8 @@ IsWritten config before after s answer = (entries after ≡ entries before ++ en
     × IsAnswered config (entries before) s answer
 
 -- where the call succeeds the step was accepted, and is written down
-abbrev pub Writes : {A E : Type 0} → Step → Machine → List JournalEntry → List JournalEntry → Result A E
+abbrev pub Writes : {A E : Type 0} → Step → Machine → List JournalEntry → List JournalEntry
+    → Result A E
     → (A → StepAnswer) → Type 0
 Writes s old before after result answer = (config : Config) → KeepsFor config old (entries before)
     → IfOk result (λ x. IsWritten config before after s (answer x))
@@ -109,7 +112,8 @@ AddsOne before after result =
     OnOk result ((length after ≡ length before + 1) × (length after < 2 ^ 64))
 
 -- where it fails the step is refused so
-abbrev pub DeclinesEntry : {A E : Type 0} → Step → Machine → List JournalEntry → Result A E → (E → Refusal)
+abbrev pub DeclinesEntry : {A E : Type 0} → Step → Machine → List JournalEntry → Result A E
+    → (E → Refusal)
     → Type 0
 DeclinesEntry s old before result why = (config : Config) → KeepsFor config old (entries before)
     → IfErr result (λ e. IsRefusedBehind config (entries before) s (why e))

@@ -10,8 +10,8 @@ use tenant_world::Tenant;
 // A size, in bytes, for which the usual allocators keep no list of their own.
 const SETTLING: usize = 2_048;
 
-/// What was done for an act beforehand, and what it leaves to nobody. Whoever has a book under a lock
-/// frees that behind it.
+/// What was done for an act beforehand, and what it leaves to nobody. Whoever has a book under a
+/// lock frees that behind it.
 pub struct Beside {
     pub aside: Aside,
     /// The ending of a form that is finished: the journal keeps none of it but how it ended.

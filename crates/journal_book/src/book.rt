@@ -12,13 +12,15 @@ ghost use Rattle.server_rules.specs.Inside.Wires.{wire_at};
 ghost use Rattle.repl_core.specs.Standing.{open_in};
 ghost use Rattle.repl_core.specs.Steps.{step_view, step_answer_view};
 ghost use Rattle.journal_book.specs.Ahead.{next_text_in, IsAddresseeIn};
-ghost use Rattle.journal_book.specs.Alone.{bytes_to, NamesNoSharedIn, IsHonest, own_steps, own_turns};
+ghost use Rattle.journal_book.specs.Alone.{bytes_to, NamesNoSharedIn, IsHonest, own_steps};
+ghost use Rattle.journal_book.specs.Alone.{own_turns};
 ghost use Rattle.journal_book.specs.Beside.{SpellsStep};
 ghost use Rattle.journal_book.specs.Forms.{EndsAsTold};
 ghost use Rattle.journal_book.specs.Journal.{IsJournal};
 ghost use Rattle.journal_book.specs.View.{entries, seat_with};
 ghost use Rattle.journal_book.specs.Rows.{made_row, row_of, entries_of, counted_of, all_counted};
-ghost use Rattle.journal_book.specs.Standing.{IsOwnStep, HoldsBehind, IsAdmitted, IsDeclined, IsMade};
+ghost use Rattle.journal_book.specs.Standing.{IsOwnStep, HoldsBehind, IsAdmitted, IsDeclined};
+ghost use Rattle.journal_book.specs.Standing.{IsMade};
 ghost use Rattle.journal_book.specs.Standing.{RefusesTenant};
 
 use crate::beside::Beside;
@@ -28,6 +30,7 @@ use crate::seat::Seat;
 use crate::writing::{open, write};
 use paged_list::Pages;
 use repl_core::{Config, LoadError, Machine, Refused, Step, StepAnswer};
+use repl_values::Value;
 use server_rules::{Actor, Refusal, Wire};
 use std::alloc::Global;
 use std::marker::Model;
@@ -75,7 +78,8 @@ impl<L: Ledger> Model for Book<L> {
     ghost use Rattle.std.specs.Coded.{codes};
     ghost use Rattle.journal_book.specs.contracts.entry.JournalEntry as kept;
     ghost use Rattle.journal_book.specs.View.{BookData, entries};
-    ghost use Rattle.journal_book.specs.Rows.{made_row, row_of, entries_of, counted_of, all_counted};
+    ghost use Rattle.journal_book.specs.Rows.{made_row, row_of, entries_of, counted_of};
+    ghost use Rattle.journal_book.specs.Rows.{all_counted};
     ghost use Rattle.journal_book.specs.Standing.{KeepsFor};
 
     ghost Value = { BookData };
@@ -183,9 +187,9 @@ impl<L: Ledger> Book<L> {
         &self.journal
     }
 
-    /// The first of a tenant's sessions and its bare requests that has a form or a request to begin,
-    /// if the tenant is open and one has. It never names the actor of agents. It looks at each that
-    /// has something to do, and takes no memory.
+    /// The first of a tenant's sessions and its bare requests that has a form or a request to
+    /// begin, if the tenant is open and one has. It never names the actor of agents. It looks at
+    /// each that has something to do, and takes no memory.
     pub fn ready(&self, tenant: u64) -> Option<Actor>
         ensures { HoldsBehind self.now (λ _ w.
             result ≡ option_and_then (λ it. ready it.state) (open_in tenant w)) }
@@ -211,8 +215,9 @@ impl<L: Ledger> Book<L> {
         self.machine.tenant(tenant)?.next_text(actor)
     }
 
-    /// To whom and how it is told that the form of an actor of a tenant ended, if something of it is in
-    /// hand. None also where a file's session was closed, and where 2^63 owners share the request.
+    /// To whom and how it is told that the form of an actor of a tenant ended, if something of it
+    /// is in hand. None also where a file's session was closed, and where 2^63 owners share the
+    /// request.
     pub fn addressee(&self, tenant: u64, actor: Actor) -> Option<Addressee>
         ensures { HoldsBehind self.now (λ _ w.
             IfSome result (IsAddresseeIn actor (open_in tenant w))) }
@@ -220,8 +225,8 @@ impl<L: Ledger> Book<L> {
         self.machine.tenant(tenant)?.addressee(actor)
     }
 
-    /// Opens the next tenant, which is counted on its reader's seat. Where it is refused nothing has
-    /// changed.
+    /// Opens the next tenant, which is counted on its reader's seat. Where it is refused nothing
+    /// has changed.
     pub fn admit(&mut self) -> Result<Places<L>, Refusal>
         ensures admitted { IfOk result (λ p. IsAdmitted self.old self.new p.tenant) }
         ensures seats { IfOk result (λ p. (p.reader ≡ seat_with p.tenant 1)
@@ -265,9 +270,9 @@ impl<L: Ledger> Book<L> {
         self.act_with(seat, step, false, &mut Beside::nothing())
     }
 
-    /// Does what `act` does, with what was done for it beforehand. Where the step is known, and ends a
-    /// form, the journal tells that it ends just the form that runs, and nothing of that is compared.
-    /// What it leaves in `beside` is in no clause.
+    /// Does what `act` does, with what was done for it beforehand. Where the step is known, and
+    /// ends a form, the journal tells that it ends just the form that runs, and nothing of that is
+    /// compared. What it leaves in `beside` is in no clause.
     pub fn act_with(
         &mut self,
         seat: &mut Seat<L>,
@@ -276,7 +281,8 @@ impl<L: Ledger> Book<L> {
         beside: &mut Beside,
     ) -> Result<Receipt, Refused>
         requires own { IsOwnStep seat.old (step_view step) }
-        requires as_told { is_known ≡ true → EndsAsTold (entries self.old.journal) (step_view step) }
+        requires as_told { is_known ≡ true
+            → EndsAsTold (entries self.old.journal) (step_view step) }
         requires spelled { SpellsStep beside.old.aside.spelled (step_view step) }
         ensures made { IfOk result (λ r. (r.place ≡ length self.old.journal)
             × IsMade self.old self.new seat.old seat.new (step_view step)
@@ -289,6 +295,15 @@ impl<L: Ledger> Book<L> {
         let answer = write(self.alloc, machine, journal, step, is_known, beside)?;
         seat.count(&mut self.counts);
         Ok(Receipt { place, answer })
+    }
+
+    /// Drops so many refs, at the most, of tenants that are gone, and answers whether more are
+    /// left, as the machine does (`Machine::drop_departed`). A tenant that goes leaves its refs to
+    /// this, so that no step takes long for them.
+    pub fn drop_departed(&mut self, most: usize, values: &mut Vec<Value>) -> bool
+        ensures { self.new ≡ self.old }
+    {
+        self.machine.drop_departed(most, values)
     }
 
     /// Takes seats back, and tells of each tenant what was journalled and what its seats made.

@@ -33,7 +33,8 @@ impl Report {
         seats: &[Seat<L>],
     ) -> Result<Report, AllocError>
         ensures { IfOk result (λ report. (t : ℕ) → row_of t report
-            ≡ made_row (entries_of t (entries journal.now.items)) (counted_of t seats.now % 2 ^ 64)) }
+            ≡ made_row (entries_of t (entries journal.now.items))
+            (counted_of t seats.now % 2 ^ 64)) }
     {
         let mut report = Report {
             rows: BTreeMap::new(alloc),

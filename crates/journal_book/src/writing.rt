@@ -1,5 +1,5 @@
-// A step is made, and written down with its answer. Where it is refused nothing is written. All that
-// an entry needs of memory is taken before the step is made.
+// A step is made, and written down with its answer. Where it is refused nothing is written. All
+// that an entry needs of memory is taken before the step is made.
 ghost use Rattle.std.specs.Prelude.{◌≡◌, true, OnErr, IfOk, IfErr};
 ghost use Rattle.repl_asks.specs.Inside.View.{ask_view};
 ghost use Rattle.repl_walker.specs.Ends.{ending_view};
@@ -48,7 +48,8 @@ pub(crate) fn open(
     ensures written { Writes (opens tenant) machine.old journal.old.items journal.new.items result
         (λ _. tenant_opened) }
     ensures one { AddsOne journal.old.items journal.new.items result }
-    ensures declined { DeclinesEntry (opens tenant) machine.old journal.old.items result (λ why. why) }
+    ensures declined { DeclinesEntry (opens tenant) machine.old journal.old.items
+        result (λ why. why) }
     ensures stays { OnErr result (journal.new.items ≡ journal.old.items) }
 {
     let Ok(()) = journal.make_room() else {
@@ -155,8 +156,8 @@ fn hear(
     ensures written { Writes (does tenant (hears piece.now)) machine.old journal.old.items
         journal.new.items result messages_heard }
     ensures one { AddsOne journal.old.items journal.new.items result }
-    ensures declined { DeclinesEntry (does tenant (hears piece.now)) machine.old journal.old.items result
-        (λ why. why) }
+    ensures declined { DeclinesEntry (does tenant (hears piece.now)) machine.old journal.old.items
+        result (λ why. why) }
     ensures stays { OnErr result (journal.new.items ≡ journal.old.items) }
 {
     let Ok(()) = journal.make_room() else {
@@ -187,8 +188,8 @@ fn begin(
     ensures written { Writes (does tenant (starts actor)) machine.old journal.old.items
         journal.new.items result start_answer_view }
     ensures one { AddsOne journal.old.items journal.new.items result }
-    ensures declined { DeclinesEntry (does tenant (starts actor)) machine.old journal.old.items result
-        (λ why. why) }
+    ensures declined { DeclinesEntry (does tenant (starts actor)) machine.old journal.old.items
+        result (λ why. why) }
     ensures stays { OnErr result (journal.new.items ≡ journal.old.items) }
 {
     let Ok(()) = journal.make_room() else {
@@ -257,8 +258,8 @@ fn end(
     ensures written { Writes (does tenant (ends actor (ending_view ending.value))) machine.old
         journal.old.items journal.new.items result end_answer_view }
     ensures one { AddsOne journal.old.items journal.new.items result }
-    ensures declined { DeclinesEntry (does tenant (ends actor (ending_view ending.value))) machine.old
-        journal.old.items result (λ it. it.why) }
+    ensures declined { DeclinesEntry (does tenant (ends actor (ending_view ending.value)))
+        machine.old journal.old.items result (λ it. it.why) }
     ensures stays { OnErr result (journal.new.items ≡ journal.old.items) }
     ensures handed_back { IfErr result (λ it. it.step ≡ Step.Ended tenant actor ending) }
 {
@@ -354,7 +355,8 @@ fn bye(
     ensures written { Writes (closes tenant) machine.old journal.old.items journal.new.items result
         (λ _. tenant_gone) }
     ensures one { AddsOne journal.old.items journal.new.items result }
-    ensures declined { DeclinesEntry (closes tenant) machine.old journal.old.items result (λ why. why) }
+    ensures declined { DeclinesEntry (closes tenant) machine.old journal.old.items
+        result (λ why. why) }
     ensures stays { OnErr result (journal.new.items ≡ journal.old.items) }
 {
     let Ok(()) = journal.make_room() else {

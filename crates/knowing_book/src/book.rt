@@ -14,7 +14,8 @@ ghost use Rattle.knowing_book.specs.Lasts.{AreLasts};
 ghost use Rattle.journal_book.specs.Beside.{SpellsStep};
 ghost use Rattle.journal_book.specs.Forms.{form_of, form_told, EndsAsTold};
 ghost use Rattle.journal_book.specs.Journal.{EntryData};
-ghost use Rattle.journal_book.specs.Standing.{IsOwnStep, IsAdmitted, IsDeclined, IsMade, RefusesTenant, entry_of};
+ghost use Rattle.journal_book.specs.Standing.{IsOwnStep, IsAdmitted, IsDeclined, IsMade};
+ghost use Rattle.journal_book.specs.Standing.{RefusesTenant, entry_of};
 ghost use Rattle.journal_book.specs.View.{entries, seat_with};
 ghost use Rattle.knowing_book.specs.Keys.{entry_key, last_by};
 ghost use Rattle.knowing_book.specs.Knowledge.{Knows, Shares};
@@ -27,6 +28,7 @@ use crate::lasts::Lasts;
 use journal_book::{Beside, Book, JournalEntry, Places, Receipt, Seat};
 use paged_list::Pages;
 use repl_core::{Refused, Step, StepAnswer};
+use repl_values::Value;
 use server_rules::{Actor, Refusal};
 use std::alloc::Global;
 use std::marker::Model;
@@ -176,8 +178,15 @@ impl<L: Ledger, N: Naming> KnowingBook<L, N> {
         self.make(seat, Step::Bye(tenant), false, beside)
     }
 
-    /// An actor of the seat's tenant begins its next form, or takes up its next request. A form that
-    /// begins is given with what is known of it.
+    /// Drops refs of tenants that are gone, as the book does.
+    pub fn drop_departed(&mut self, most: usize, values: &mut Vec<Value>) -> bool
+        ensures { self.new ≡ self.old }
+    {
+        self.book.drop_departed(most, values)
+    }
+
+    /// An actor of the seat's tenant begins its next form, or takes up its next request. A form
+    /// that begins is given with what is known of it.
     pub fn start(
         &mut self,
         seat: &mut Seat<L>,
@@ -262,9 +271,9 @@ impl<L: Ledger, N: Naming> KnowingBook<L, N> {
         }
     }
 
-    /// A form ends. Where its actor's last entry is the one that its worker knows of, two numbers are
-    /// compared and nothing of its trace is; else the whole of it. No clause says which. An ending that
-    /// is refused is given back, without its replies.
+    /// A form ends. Where its actor's last entry is the one that its worker knows of, two numbers
+    /// are compared and nothing of its trace is; else the whole of it. No clause says which. An
+    /// ending that is refused is given back, without its replies.
     pub fn end(
         &mut self,
         seat: &mut Seat<L>,
@@ -318,7 +327,8 @@ impl<L: Ledger, N: Naming> KnowingBook<L, N> {
         beside: &mut Beside,
     ) -> Result<Receipt, Refused>
         requires own { IsOwnStep seat.old (step_view step) }
-        requires as_told { is_known ≡ true → EndsAsTold (entries self.old.journal) (step_view step) }
+        requires as_told { is_known ≡ true
+            → EndsAsTold (entries self.old.journal) (step_view step) }
         requires spelled { SpellsStep beside.old.aside.spelled (step_view step) }
         ensures made { IfOk result (λ r. (r.place ≡ length self.old.journal)
             × IsMade self.old self.new seat.old seat.new (step_view step)
@@ -435,7 +445,8 @@ fn add<N: Naming>(
     place: u64,
 )
     requires { IfSome known.old (λ es. place ≡ length es) }
-    ensures { (e : EntryData) → IfSome known.old (λ es. entries journal.now.items ≡ entries es ++ e ∷ [])
+    ensures { (e : EntryData) → IfSome known.old (λ es. entries journal.now.items
+        ≡ entries es ++ e ∷ [])
         → IfSome known.new (λ es. entries es ≡ entries journal.now.items) }
 {
     let longer = match known.take() {

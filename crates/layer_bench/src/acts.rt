@@ -1,5 +1,5 @@
-// Serves a stream as `serve` does, act by act, and tells how long the longest act of each kind took:
-// so long `serve` holds the lock of its book.
+// Serves a stream as `serve` does, act by act, and tells how long the longest act of each kind
+// took: so long `serve` holds the lock of its book.
 ghost use Rattle.std.specs.Prelude.{◌≡◌, []};
 
 use bytes::Bytes;
@@ -19,6 +19,9 @@ const PIECE: usize = 2_048;
 
 const SHORT_TEXT: usize = 2_048;
 
+// How many refs of tenants that are gone are dropped at once.
+const REFS_AT_ONCE: usize = 256;
+
 /// The longest act of each kind, in nanoseconds.
 #[derive(Clone, Copy, Debug, Default)]
 pub(crate) struct Longest {
@@ -28,6 +31,8 @@ pub(crate) struct Longest {
     pub(crate) end: u128,
     pub(crate) drain: u128,
     pub(crate) leave: u128,
+    /// Of refs whose tenant is gone, so many as `serve` drops under one hold of the lock.
+    pub(crate) refs: u128,
 }
 
 /// How long it takes to copy these bytes into new memory, in nanoseconds.
@@ -232,6 +237,22 @@ impl<'a, L: Ledger, N: Naming, R: Clock> Bench<'a, L, N, R> {
             .leave(&mut self.places.reader, &mut beside)
             .is_ok();
         self.longest.leave = begun.elapsed(self.clock)?.as_nanos();
+        self.drop_refs()
+    }
+
+    // Drops what is left of the tenant's refs.
+    fn drop_refs(&mut self) -> io::Result<()> {
+        let mut values = Vec::with_capacity(self.alloc, REFS_AT_ONCE)?;
+        for _ in 0..u64::MAX {
+            let begun = Instant::now(self.clock)?;
+            let is_more = self.book.drop_departed(REFS_AT_ONCE, &mut values);
+            let took = begun.elapsed(self.clock)?.as_nanos();
+            self.longest.refs = self.longest.refs.max(took);
+            values.clear();
+            if !is_more {
+                break;
+            }
+        }
         Ok(())
     }
 }

@@ -83,6 +83,7 @@ fn time_acts(rt: &HostRuntime) -> io::Result<()> {
         end,
         drain,
         leave,
+        refs,
     } = longest;
     println!(rt;
         "microseconds: hear {}, start {}",
@@ -91,6 +92,7 @@ fn time_acts(rt: &HostRuntime) -> io::Result<()> {
     )?;
     println!(rt; "ask {}, end {}", ask / 1_000, end / 1_000)?;
     println!(rt; "drain {}, leave {}", drain / 1_000, leave / 1_000)?;
+    println!(rt; "refs {}", refs / 1_000)?;
     println!(rt; "a copy of {} bytes {}", copied.len(), copy / 1_000)
 }
 

@@ -93,4 +93,10 @@ pub trait History: Drop {
     fn drop_ref(&mut self, id: RefId)
         ensures gone { IsAbsent (stands self.new) id }
         ensures others { SameBut id (stands self.old) (stands self.new) };
+
+    /// The same, and puts the values that were kept of it behind these, so that the caller drops
+    /// them. What finds no room there is dropped at once.
+    fn take_ref(&mut self, id: RefId, values: &mut Vec<Value>)
+        ensures gone { IsAbsent (stands self.new) id }
+        ensures others { SameBut id (stands self.old) (stands self.new) };
 }

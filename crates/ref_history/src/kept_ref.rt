@@ -102,6 +102,14 @@ impl KeptRef {
         Some(behind + 1)
     }
 
+    // Puts the values behind these. What finds no room there is dropped.
+    pub(crate) fn give(self, values: &mut Vec<Value>) {
+        let _ = values.push(self.newest.content);
+        for version in self.older {
+            let _ = values.push(version.content);
+        }
+    }
+
     pub(crate) fn content_at(&self, place: usize) -> Option<&Value>
         ensures { option_map (λ v. view v.now) result ≡ content_in self.now place }
     {

@@ -99,4 +99,10 @@ impl History for ListHistory {
     fn drop_ref(&mut self, id: RefId) {
         drop(self.refs.try_remove(id.place));
     }
+
+    fn take_ref(&mut self, id: RefId, values: &mut Vec<Value>) {
+        if let Some(kept) = self.refs.try_remove(id.place) {
+            kept.give(values);
+        }
+    }
 }

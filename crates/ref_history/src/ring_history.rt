@@ -23,11 +23,11 @@ pub struct RingHistory {
 }
 
 impl RingHistory {
-    ghost use Rattle.std.specs.Prelude.{◌≡◌, IsTrue};
+    ghost use Rattle.std.specs.Prelude.{◌≡◌, ◌-◌, Some, IsTrue};
     ghost use Rattle.ref_history.specs.Versioned.{Ref, grows};
     ghost use Rattle.ref_history.specs.Changes.{IsAbsent};
     ghost use Rattle.ref_history.specs.RingHistories.{RingStands};
-    ghost use Rattle.ref_history.specs.Rung.{ref_in, RingKept, versions_of};
+    ghost use Rattle.ref_history.specs.Rung.{ref_in, RingKept, versions_of, room_for};
     ghost use Rattle.ref_history.specs.declared.ref_id.RefId.{RefId};
 
     /// A history without refs. It takes no memory.
@@ -59,6 +59,17 @@ impl RingHistory {
     {
         let behind = (self.rings.count(ring_of(id)) as u64).saturating_sub(1);
         (kept.is_faulted && behind < kept.bounds.most) || behind < kept.bounds.least
+    }
+
+    // For how many refs room stays reserved where one goes.
+    fn reserved_without(&self, kept: RingRef) -> usize
+        ensures { result ≡ self.now.reserved - room_for (Some kept) }
+    {
+        if kept.has_room {
+            self.reserved.saturating_sub(1)
+        } else {
+            self.reserved
+        }
     }
 }
 
@@ -184,12 +195,18 @@ impl History for RingHistory {
         let Some(kept) = self.kept(id) else {
             return;
         };
-        let reserved = if kept.has_room {
-            self.reserved.saturating_sub(1)
-        } else {
-            self.reserved
-        };
+        let reserved = self.reserved_without(kept);
         self.rings.release(ring_of(id));
+        self.refs[id.place] = None;
+        self.reserved = reserved;
+    }
+
+    fn take_ref(&mut self, id: RefId, values: &mut Vec<Value>) {
+        let Some(kept) = self.kept(id) else {
+            return;
+        };
+        let reserved = self.reserved_without(kept);
+        self.rings.take_out(ring_of(id), values);
         self.refs[id.place] = None;
         self.reserved = reserved;
     }

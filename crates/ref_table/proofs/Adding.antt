@@ -83,5 +83,6 @@ with_raised_counter-stands stands t s r now = record {
   counter = ap (λ n. n + 1) now.counter;
   refs = now.refs;
   apart = now.apart;
+  left = now.left;
   no_more = now.no_more;
 }

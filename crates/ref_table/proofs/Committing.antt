@@ -30,6 +30,7 @@ use Rattle.ref_table.specs.declared.directory.Directory.{Directory}
 use Rattle.ref_table.specs.declared.table.RefTable.{RefTable}
 use Rattle.ref_table.proofs.Folds.{folded-names}
 use Rattle.ref_table.proofs.Once.{both_true, distinct-ids}
+use Rattle.ref_table.proofs.Standing.{owned-apart}
 use Rattle.ref_table.proofs.Rooms.{same_id}
 use Rattle.ref_table.proofs.Tables.{all-named, seen-stands}
 
@@ -121,7 +122,8 @@ acceptable stands t r caller points intent s =
     (all_take intent.commuted)
     (all-named stands t (store_of caller points r) r (touched_refs intent)
     (seen-stands stands t caller points r s))
-    (λ e. distinct-ids t.directory caller (changing_refs intent) s.apart
+    (λ e. distinct-ids t.directory caller (changing_refs intent)
+    (owned-apart t.directory t.departed s.apart)
     (changing_refs-named t.directory caller intent e)) where
       turned : (f a t : Bool) → ((f && t) && a) ≡ ((f && a) && t)
       turned true true true = refl

@@ -8,6 +8,7 @@ use Rattle.std.proofs.lemmas.Bool.{cases_Bool, eqb-true, eq-eqb}
 use Rattle.value_data.specs.Datum.{OwnerData, shared, tenant}
 use Rattle.ref_table.specs.Numbered.{changed_at}
 use Rattle.ref_history.specs.declared.ref_id.RefId.{RefId}
+use Rattle.ref_table.specs.Standing.{Holder, of_owner, of_batch}
 
 pub numbers : (n m : ℕ) → (n ≡ m) ⊎ (n ≢ m)
 numbers n m = elim (cases_Bool (n == m)) [
@@ -27,6 +28,27 @@ owners (tenant t) (tenant u) = elim (numbers t u) [
 ] where
   same_tenant : (t u : ℕ) → tenant t ≡ tenant u → t ≡ u
   same_tenant t u e = cc
+
+pub owner-same : (o p : OwnerData) → of_owner o ≡ of_owner p → o ≡ p
+owner-same o p e = cc
+
+pub batch-same : (b c : ℕ) → of_batch b ≡ of_batch c → b ≡ c
+batch-same b c e = cc
+
+pub owner-batch : (o : OwnerData) (b : ℕ) → of_owner o ≢ of_batch b
+owner-batch o b e = cc
+
+pub holders : (h k : Holder) → (h ≡ k) ⊎ (h ≢ k)
+holders (of_owner o) (of_owner p) = elim (owners o p) [
+  | inl same ↦ inl (ap of_owner same)
+  | inr differs ↦ inr (λ e. differs (owner-same o p e))
+]
+holders (of_owner o) (of_batch b) = inr (owner-batch o b)
+holders (of_batch b) (of_owner o) = inr (λ e. owner-batch o b (sym e))
+holders (of_batch b) (of_batch c) = elim (numbers b c) [
+  | inl same ↦ inl (ap of_batch same)
+  | inr differs ↦ inr (λ e. differs (batch-same b c e))
+]
 
 pub some-same : {A : Type 0} (x y : A) → ◌≡◌ {A = Option A} (Some x) (Some y) → x ≡ y
 some-same x y e = cc
@@ -67,6 +89,10 @@ slice_get-added_other (suc n) [] x other = refl
 slice_get-added_other zero (y ∷ xs) x other = refl
 slice_get-added_other (suc n) (y ∷ xs) x other =
     slice_get-added_other n xs x (λ e. other (ap suc e))
+
+pub slice_get-behind : {A : Type 0} (xs : List A) → slice_get xs (length xs) ≡ None
+slice_get-behind [] = refl
+slice_get-behind (y ∷ xs) = slice_get-behind xs
 
 pub slice_get-front : {A : Type 0} (n : ℕ) (xs : List A) (x y : A) → slice_get xs n ≡ Some x
     → slice_get (xs ++ y ∷ []) n ≡ Some x

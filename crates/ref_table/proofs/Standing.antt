@@ -7,8 +7,14 @@ use Rattle.ref_history.specs.Versioned.{Ref}
 use Rattle.ref_table.specs.Numbered.{changed_at}
 use Rattle.ref_history.specs.Changes.{Standing, IsAbsent, SameRefs, SameBut, Changed}
 use Rattle.ref_history.specs.declared.ref_id.RefId.{RefId}
-use Rattle.ref_table.specs.Standing.{Matches, StandFor, AreApart, KeepsNoMore}
-use Rattle.ref_table.proofs.Owners.{owners, numbers, some-same, none-some}
+use Rattle.ref_table.specs.Departed.{ids_left}
+use Rattle.ref_table.specs.Directory.{refs_of}
+use Rattle.ref_table.specs.Standing.{Matches, StandFor, Holder, of_owner, of_batch, ids_held}
+use Rattle.ref_table.specs.Standing.{AreApart, AreKept, KeepsNoMore}
+use Rattle.ref_table.specs.declared.departed.Departed.{Departed}
+use Rattle.ref_table.specs.declared.directory.Directory.{Directory}
+use Rattle.ref_table.proofs.Owners.{owners, holders, owner-same, owner-batch, numbers}
+use Rattle.ref_table.proofs.Owners.{some-same, none-some, slice_get-behind}
 use Rattle.ref_table.proofs.Owners.{slice_get-changed, slice_get-changed_other}
 use Rattle.ref_table.proofs.Owners.{slice_get-added, slice_get-added_other, slice_get-front}
 use Rattle.ref_table.proofs.Owners.{ids as which, among}
@@ -91,6 +97,13 @@ stand-changed old new ids refs later w m id f here apart change changes others h
                 (unchanged w n (λ e. differs e.1))
           ])
 
+-- no two refs of owners have one id
+pub owned-apart : (d : Directory) (gone : Departed) → AreApart (ids_held d gone)
+    → AreApart (refs_of d)
+owned-apart d gone apart o p n m i e f =
+    let both = apart (of_owner o) (of_owner p) n m i e f in
+    (owner-same o p both.0, both.1)
+
 -- an owner's ids are as many as its refs
 pub lengths : (standing : Standing) (ids : List RefId) (refs : List Ref)
     → ((n : ℕ) → Matches standing (slice_get ids n) (slice_get refs n))
@@ -158,9 +171,9 @@ stand-made old new ids more refs later w id ref adds rest makes others none here
           (added n))
 
 -- and its id is none of the others
-pub apart-made : (ids more : OwnerData → List RefId) (w : OwnerData) (id : RefId)
-    → more w ≡ ids w ++ id ∷ [] → ((o : OwnerData) → o ≢ w → more o ≡ ids o)
-    → ((o : OwnerData) (n : ℕ) → slice_get (ids o) n ≢ Some id) → AreApart ids → AreApart more
+pub apart-made : (ids more : Holder → List RefId) (w : Holder) (id : RefId)
+    → more w ≡ ids w ++ id ∷ [] → ((o : Holder) → o ≢ w → more o ≡ ids o)
+    → ((o : Holder) (n : ℕ) → slice_get (ids o) n ≢ Some id) → AreApart ids → AreApart more
 apart-made ids more w id adds rest new apart o p n m i e f =
     elim (where_is o n i e) [
       | inl old ↦ elim (where_is p m i f) [
@@ -173,9 +186,9 @@ apart-made ids more w id adds rest new apart o p n m i e f =
       ]
     ] where
       -- an id is an older one, or the new one at its place
-      where_is : (o : OwnerData) (n : ℕ) (i : RefId) → slice_get (more o) n ≡ Some i
+      where_is : (o : Holder) (n : ℕ) (i : RefId) → slice_get (more o) n ≡ Some i
           → (slice_get (ids o) n ≡ Some i) ⊎ ((o ≡ w) × (n ≡ length (ids w)) × (i ≡ id))
-      where_is o n i e = elim (owners o w) [
+      where_is o n i e = elim (holders o w) [
         | inr differs ↦ inl (ap (λ l. slice_get l n) (sym (rest o differs)) ∙ e)
         | inl is ↦ elim (numbers n (length (ids w))) [
           | inl last ↦ inr (
@@ -212,14 +225,14 @@ stand-released old new ids fewer refs later w gone rest none others keeps apart 
           (λ i ref e. keeps i (λ m f. differs (apart o w n m i e f).0) ref) (h o n)))
     ]
 
-pub apart-released : (ids fewer : OwnerData → List RefId) (w : OwnerData)
-    → fewer w ≡ [] → ((o : OwnerData) → o ≢ w → fewer o ≡ ids o)
+pub apart-released : (ids fewer : Holder → List RefId) (w : Holder)
+    → fewer w ≡ [] → ((o : Holder) → o ≢ w → fewer o ≡ ids o)
     → AreApart ids → AreApart fewer
 apart-released ids fewer w gone rest apart o p n m i e f =
     apart o p n m i (was o n i e) (was p m i f) where
-      was : (o : OwnerData) (n : ℕ) (i : RefId) → slice_get (fewer o) n ≡ Some i
+      was : (o : Holder) (n : ℕ) (i : RefId) → slice_get (fewer o) n ≡ Some i
           → slice_get (ids o) n ≡ Some i
-      was o n i e = elim (owners o w) [
+      was o n i e = elim (holders o w) [
         | inl is ↦ absurd (none-some (sym (ap (λ l. slice_get l n) gone)
             ∙ ap (λ o. slice_get (fewer o) n) (sym is) ∙ e))
         | inr differs ↦ ap (λ l. slice_get l n) (sym (rest o differs)) ∙ e
@@ -227,11 +240,11 @@ apart-released ids fewer w gone rest apart o p n m i e f =
 
 -- Nothing else is kept
 
-pub no_more-same : (old new : Standing) (ids : OwnerData → List RefId) → SameRefs old new
+pub no_more-same : (old new : Standing) (ids : Holder → List RefId) → SameRefs old new
     → KeepsNoMore old ids → KeepsNoMore new ids
 no_more-same old new ids same keeps id r h = keeps id r ((same id r).1 h)
 
-pub no_more-changed : (old new : Standing) (ids : OwnerData → List RefId) (w : OwnerData) (m : ℕ)
+pub no_more-changed : (old new : Standing) (ids : Holder → List RefId) (w : Holder) (m : ℕ)
     (id : RefId) → slice_get (ids w) m ≡ Some id → SameBut id old new
     → KeepsNoMore old ids → KeepsNoMore new ids
 no_more-changed old new ids w m id here same keeps i r h = elim (which i id) [
@@ -239,8 +252,8 @@ no_more-changed old new ids w m id here same keeps i r h = elim (which i id) [
   | inr differs ↦ keeps i r ((same i differs r).1 h)
 ]
 
-pub no_more-made : (old new : Standing) (ids more : OwnerData → List RefId) (w : OwnerData)
-    (id : RefId) → more w ≡ ids w ++ id ∷ [] → ((o : OwnerData) → o ≢ w → more o ≡ ids o)
+pub no_more-made : (old new : Standing) (ids more : Holder → List RefId) (w : Holder)
+    (id : RefId) → more w ≡ ids w ++ id ∷ [] → ((o : Holder) → o ≢ w → more o ≡ ids o)
     → SameBut id old new → KeepsNoMore old ids → KeepsNoMore new more
 no_more-made old new ids more w id adds rest same keeps i r h = elim (which i id) [
   | inl is ↦ (
@@ -251,12 +264,12 @@ no_more-made old new ids more w id adds rest same keeps i r h = elim (which i id
   )
   | inr differs ↦ older (keeps i r ((same i differs r).1 h))
 ] where
-  older : (o : OwnerData) × (n : ℕ) × (slice_get (ids o) n ≡ Some i)
-      → (o : OwnerData) × (n : ℕ) × (slice_get (more o) n ≡ Some i)
+  older : (o : Holder) × (n : ℕ) × (slice_get (ids o) n ≡ Some i)
+      → (o : Holder) × (n : ℕ) × (slice_get (more o) n ≡ Some i)
   older found = (
     found.0,
     found.1,
-    elim (owners found.0 w) [
+    elim (holders found.0 w) [
       | inl is ↦ ap (λ o. slice_get (more o) found.1) is ∙ ap (λ l. slice_get l found.1) adds
           ∙ slice_get-front found.1 (ids w) i id
           (ap (λ o. slice_get (ids o) found.1) (sym is) ∙ found.2)
@@ -264,8 +277,8 @@ no_more-made old new ids more w id adds rest same keeps i r h = elim (which i id
     ],
   )
 
-pub no_more-released : (old new : Standing) (ids fewer : OwnerData → List RefId) (w : OwnerData)
-    → ((o : OwnerData) → o ≢ w → fewer o ≡ ids o)
+pub no_more-released : (old new : Standing) (ids fewer : Holder → List RefId) (w : Holder)
+    → ((o : Holder) → o ≢ w → fewer o ≡ ids o)
     → ((n : ℕ) (i : RefId) → slice_get (ids w) n ≡ Some i → IsAbsent new i)
     → ((i : RefId) → ((n : ℕ) → slice_get (ids w) n ≢ Some i)
     → (ref : Ref) → old i ref ↔ new i ref)
@@ -275,14 +288,197 @@ no_more-released old new ids fewer w rest gone others keeps i r h = elim (among 
   | inr none ↦ older none (keeps i r ((others i none r).1 h))
 ] where
   older : ((n : ℕ) → slice_get (ids w) n ≢ Some i)
-      → (o : OwnerData) × (n : ℕ) × (slice_get (ids o) n ≡ Some i)
-      → (o : OwnerData) × (n : ℕ) × (slice_get (fewer o) n ≡ Some i)
+      → (o : Holder) × (n : ℕ) × (slice_get (ids o) n ≡ Some i)
+      → (o : Holder) × (n : ℕ) × (slice_get (fewer o) n ≡ Some i)
   older none found = (
     found.0,
     found.1,
     ap (λ l. slice_get l found.1) (rest found.0
         (λ is. none found.1 (ap (λ o. slice_get (ids o) found.1) (sym is) ∙ found.2)))
         ∙ found.2,
+  )
+
+-- What is left of those who are gone is kept
+
+pub kept-same : (old new : Standing) (ids : ℕ → List RefId) → SameRefs old new
+    → AreKept old ids → AreKept new ids
+kept-same old new ids same keeps b n i e =
+    let found = keeps b n i e in
+    (found.0, (same i found.0).0 found.1)
+
+pub kept-changed : (old new : Standing) (ids : ℕ → List RefId) (id : RefId) (f : Ref → Ref)
+    → Changed id f old new → AreKept old ids → AreKept new ids
+kept-changed old new ids id f change keeps b n i e =
+    let found = keeps b n i e in
+    elim (which i id) [
+      | inl is ↦ (
+        f found.0,
+        subst (λ i. new i (f found.0)) (sym is)
+            (change.changed found.0 (subst (λ i. old i found.0) is found.1)),
+      )
+      | inr differs ↦ (found.0, (change.others i differs found.0).0 found.1)
+    ]
+
+pub kept-made : (old new : Standing) (ids : ℕ → List RefId) (id : RefId)
+    → IsAbsent old id → SameBut id old new → AreKept old ids → AreKept new ids
+kept-made old new ids id none same keeps b n i e =
+    let found = keeps b n i e in
+    (found.0, (same i (λ is. none found.0 (subst (λ i. old i found.0) is found.1)) found.0).0 found.1)
+
+pub kept-released : (old new : Standing) (d : Directory) (gone : Departed) (w : OwnerData)
+    → AreApart (ids_held d gone)
+    → ((i : RefId) → ((n : ℕ) → slice_get (refs_of d w) n ≢ Some i)
+    → (ref : Ref) → old i ref → new i ref)
+    → AreKept old (ids_left gone) → AreKept new (ids_left gone)
+kept-released old new d gone w apart stays keeps b n i e =
+    let found = keeps b n i e in (
+      found.0,
+      stays i (λ m f. owner-batch w b (apart (of_owner w) (of_batch b) m n i f e).0) found.0 found.1,
+    )
+
+-- an id that stands for nothing is nobody's
+pub fresh-held : (standing : Standing) (d : Directory) (gone : Departed)
+    (refs : OwnerData → List Ref) (id : RefId) → IsAbsent standing id
+    → StandFor standing (refs_of d) refs → AreKept standing (ids_left gone)
+    → (h : Holder) (n : ℕ) → slice_get (ids_held d gone h) n ≢ Some id
+fresh-held standing d gone refs id none s keeps (of_owner o) n e =
+    fresh standing (refs_of d) refs id none s o n e
+fresh-held standing d gone refs id none s keeps (of_batch b) n e =
+    let found = keeps b n id e in
+    none found.0 found.1
+
+-- What a holder has becomes another's, who had nothing
+
+pub apart-moved : (ids new : Holder → List RefId) (w v : Holder) → new v ≡ ids w → new w ≡ []
+    → ((h : Holder) → h ≢ w → h ≢ v → new h ≡ ids h) → AreApart ids → AreApart new
+apart-moved ids new w v here gone rest apart h k n m i e f =
+    elim (was h n i e) [
+      | inl mine ↦ elim (was k m i f) [
+        | inl its ↦ (mine.0 ∙ sym its.0, (apart w w n m i mine.1 its.1).1)
+        | inr its ↦ absurd (its.0 (sym (apart w k n m i mine.1 its.1).0))
+      ]
+      | inr mine ↦ elim (was k m i f) [
+        | inl its ↦ absurd (mine.0 (apart h w n m i mine.1 its.1).0)
+        | inr its ↦ apart h k n m i mine.1 its.1
+      ]
+    ] where
+      was : (h : Holder) (n : ℕ) (i : RefId) → slice_get (new h) n ≡ Some i
+          → ((h ≡ v) × (slice_get (ids w) n ≡ Some i)) ⊎ ((h ≢ w) × (slice_get (ids h) n ≡ Some i))
+      was h n i e = elim (holders h v) [
+        | inl is ↦ inl (
+          is,
+          ap (λ l. slice_get l n) (sym here) ∙ ap (λ h. slice_get (new h) n) (sym is) ∙ e,
+        )
+        | inr other ↦ elim (holders h w) [
+          | inl is ↦ absurd (none-some (sym (ap (λ l. slice_get l n) gone)
+              ∙ ap (λ h. slice_get (new h) n) (sym is) ∙ e))
+          | inr differs ↦ inr (differs, ap (λ l. slice_get l n) (sym (rest h differs other)) ∙ e)
+        ]
+      ]
+
+pub no_more-moved : (standing : Standing) (ids new : Holder → List RefId) (w v : Holder)
+    → ids v ≡ [] → new v ≡ ids w → ((h : Holder) → h ≢ w → h ≢ v → new h ≡ ids h)
+    → KeepsNoMore standing ids → KeepsNoMore standing new
+no_more-moved standing ids new w v none here rest keeps i r h = moved (keeps i r h) where
+  moved : (o : Holder) × (n : ℕ) × (slice_get (ids o) n ≡ Some i)
+      → (o : Holder) × (n : ℕ) × (slice_get (new o) n ≡ Some i)
+  moved found = elim (holders found.0 w) [
+    | inl is ↦ (
+      v,
+      found.1,
+      ap (λ l. slice_get l found.1) here ∙ ap (λ h. slice_get (ids h) found.1) (sym is) ∙ found.2,
+    )
+    | inr differs ↦ (
+      found.0,
+      found.1,
+      ap (λ l. slice_get l found.1) (rest found.0 differs
+          (λ is. none-some (sym (ap (λ l. slice_get l found.1) none)
+          ∙ ap (λ h. slice_get (ids h) found.1) (sym is) ∙ found.2)))
+          ∙ found.2,
+    )
+  ]
+
+pub kept-moved : (standing : Standing) (ids more : ℕ → List RefId) (own : List RefId)
+    (refs : List Ref) (b : ℕ) → more b ≡ own → ((n : ℕ) → n ≢ b → more n ≡ ids n)
+    → ((n : ℕ) → Matches standing (slice_get own n) (slice_get refs n))
+    → AreKept standing ids → AreKept standing more
+kept-moved standing ids more own refs b here rest stand keeps c n i e = elim (numbers c b) [
+  | inl is ↦
+      let found = there standing (slice_get own n) (slice_get refs n) i (stand n)
+      (ap (λ l. slice_get l n) (sym here) ∙ ap (λ c. slice_get (more c) n) (sym is) ∙ e) in
+      (found.0, found.2)
+  | inr differs ↦ keeps c n i (ap (λ l. slice_get l n) (sym (rest c differs)) ∙ e)
+]
+
+-- A ref of one who is gone is dropped
+
+abbrev pub Loses : (Holder → List RefId) → Holder → RefId → (Holder → List RefId) → Type 0
+Loses ids w id new =
+    (ids w ≡ new w ++ id ∷ []) × ((h : Holder) → h ≢ w → new h ≡ ids h)
+
+pub was-held : (ids new : Holder → List RefId) (w : Holder) (id : RefId) → Loses ids w id new
+    → (h : Holder) (n : ℕ) (i : RefId) → slice_get (new h) n ≡ Some i → slice_get (ids h) n ≡ Some i
+was-held ids new w id loses h n i e = elim (holders h w) [
+  | inl is ↦
+      ap (λ h. slice_get (ids h) n) is ∙ ap (λ l. slice_get l n) loses.0
+      ∙ slice_get-front n (new w) i id (ap (λ h. slice_get (new h) n) (sym is) ∙ e)
+  | inr differs ↦ ap (λ l. slice_get l n) (sym (loses.1 h differs)) ∙ e
+]
+
+pub apart-dropped : (ids new : Holder → List RefId) (w : Holder) (id : RefId) → Loses ids w id new
+    → AreApart ids → AreApart new
+apart-dropped ids new w id loses apart h k n m i e f =
+    apart h k n m i (was-held ids new w id loses h n i e) (was-held ids new w id loses k m i f)
+
+-- nobody has it any more
+pub none-held : (ids new : Holder → List RefId) (w : Holder) (id : RefId) → Loses ids w id new
+    → AreApart ids → (h : Holder) (n : ℕ) → slice_get (new h) n ≢ Some id
+none-held ids new w id loses apart h n e =
+    let same = apart h w n (length (new w)) id (was-held ids new w id loses h n id e)
+    (ap (λ l. slice_get l (length (new w))) loses.0 ∙ slice_get-added (new w) id) in
+    none-some (sym (slice_get-behind (new w))
+    ∙ ap (λ n. slice_get (new w) n) (sym same.1) ∙ ap (λ h. slice_get (new h) n) (sym same.0) ∙ e)
+
+pub stand-dropped : (old new : Standing) (ids : OwnerData → List RefId)
+    (refs : OwnerData → List Ref) (id : RefId)
+    → ((o : OwnerData) (n : ℕ) → slice_get (ids o) n ≢ Some id) → SameBut id old new
+    → StandFor old ids refs → StandFor new ids refs
+stand-dropped old new ids refs id none same h o n =
+    kept old new (slice_get (ids o) n) (slice_get (refs o) n)
+    (λ i ref e. (same i (λ is. none o n (e ∙ ap Some is)) ref).0) (h o n)
+
+pub kept-dropped : (old new : Standing) (ids fewer : ℕ → List RefId) (id : RefId)
+    → ((b n : ℕ) (i : RefId) → slice_get (fewer b) n ≡ Some i → slice_get (ids b) n ≡ Some i)
+    → ((b n : ℕ) → slice_get (fewer b) n ≢ Some id) → SameBut id old new
+    → AreKept old ids → AreKept new fewer
+kept-dropped old new ids fewer id was none same keeps b n i e =
+    let found = keeps b n i (was b n i e) in
+    (found.0, (same i (λ is. none b n (e ∙ ap Some is)) found.0).0 found.1)
+
+pub no_more-dropped : (old new : Standing) (ids fewer : Holder → List RefId) (w : Holder)
+    (id : RefId) → Loses ids w id fewer → IsAbsent new id → SameBut id old new
+    → KeepsNoMore old ids → KeepsNoMore new fewer
+no_more-dropped old new ids fewer w id loses gone same keeps i r h = elim (which i id) [
+  | inl is ↦ absurd (gone r (subst (λ i. new i r) is h))
+  | inr differs ↦ left differs (keeps i r ((same i differs r).1 h))
+] where
+  left : i ≢ id → (o : Holder) × (n : ℕ) × (slice_get (ids o) n ≡ Some i)
+      → (o : Holder) × (n : ℕ) × (slice_get (fewer o) n ≡ Some i)
+  left differs found = (
+    found.0,
+    found.1,
+    elim (holders found.0 w) [
+      | inr other ↦ ap (λ l. slice_get l found.1) (loses.1 found.0 other) ∙ found.2
+      | inl is ↦
+          let here : slice_get (fewer w ++ id ∷ []) found.1 ≡ Some i =
+          ap (λ l. slice_get l found.1) (sym loses.0)
+          ∙ ap (λ h. slice_get (ids h) found.1) (sym is) ∙ found.2 in
+          ap (λ h. slice_get (fewer h) found.1) is
+          ∙ sym (slice_get-added_other found.1 (fewer w) id
+          (λ last. differs (some-same i id (sym here
+          ∙ ap (slice_get (fewer w ++ id ∷ [])) last ∙ slice_get-added (fewer w) id))))
+          ∙ here
+    ],
   )
 
 -- a ref that was made and dropped

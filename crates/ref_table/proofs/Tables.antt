@@ -2,7 +2,7 @@
 use Rattle.std.proofs.Common.{◌≡◌, ◌≢◌, ℕ, List, [], ◌∷◌, ◌++◌, true, false, Option, Some, None}
 use Rattle.std.proofs.Common.{refl, sym, ap, ap₂, ◌∙◌, subst, ◌&&◌, is_some, slice_get}
 use Rattle.std.proofs.Common.{if◌then◌else◌}
-use Rattle.std.specs.Prelude.{◌↔◌}
+use Rattle.std.specs.Prelude.{◌↔◌, Result, Ok, Err, OnErr}
 use mathlib.Core.Path.{fun_ext}
 use Rattle.std.proofs.lemmas.Bool.{eq-eqb, ne_eqb}
 use Rattle.value_data.specs.Datum.{OwnerData, shared, tenant}
@@ -16,14 +16,35 @@ use Rattle.ref_history.specs.Changes.{Standing, IsAbsent, SameRefs, SameBut, Cha
 use Rattle.ref_history.specs.declared.ref_id.RefId.{RefId}
 use Rattle.ref_table.specs.Refs.{Refs, store_of, refs_after, with_ref, without_refs}
 use Rattle.ref_table.specs.Directory.{refs_of, id_named, all_named}
-use Rattle.ref_table.specs.Standing.{Matches, StandFor, AreApart, KeepsNoMore, TableStands}
+use Rattle.ref_table.specs.Departed.{ids_left, GetsBatch, LosesId}
+use Rattle.ref_table.specs.Standing.{Matches, StandFor, Holder, of_owner, of_batch, ids_held}
+use Rattle.ref_table.specs.Standing.{AreApart, AreKept, KeepsNoMore, TableStands}
+use Rattle.ref_table.specs.declared.departed.Departed.{Departed}
 use Rattle.ref_table.specs.declared.directory.Directory.{Directory}
 use Rattle.ref_table.specs.declared.table.RefTable.{RefTable}
 use Rattle.ref_table.proofs.Standing.{there, absent, stand-same, stand-equal, stand-changed}
-use Rattle.ref_table.proofs.Standing.{stand-made, apart-made, fresh, stand-released, apart-released}
+use Rattle.ref_table.proofs.Standing.{stand-made, apart-made, fresh-held, stand-released}
+use Rattle.ref_table.proofs.Standing.{apart-released, owned-apart, kept-same, kept-changed}
+use Rattle.ref_table.proofs.Standing.{kept-made, kept-released, apart-moved, kept-moved}
+use Rattle.ref_table.proofs.Standing.{no_more-moved, Loses, was-held, none-held, stand-dropped}
+use Rattle.ref_table.proofs.Standing.{apart-dropped, kept-dropped, no_more-dropped}
 use Rattle.ref_table.proofs.Standing.{no_more-same, no_more-changed, no_more-made, no_more-released}
 use Rattle.ref_table.proofs.Seen.{owned-seen, stands-within, changed_of-counter, id-there}
 use Rattle.ref_table.proofs.Seen.{changed-here, changed-elsewhere, changed-nowhere}
+
+pub on-err : {T E : Type 0} {P : Type 0} (v : Result T E) → P → OnErr v P
+on-err (Ok x) p = tt
+on-err (Err e) p = p
+
+abbrev pub held : {H : Type 0} → RefTable H → Holder → List RefId
+held t = ids_held t.directory t.departed
+
+-- where one owner's ids change all others' stay
+pub others_held : {H : Type 0} (t : RefTable H) (d : Directory) (o : OwnerData)
+    → ((p : OwnerData) → p ≢ o → refs_of d p ≡ refs_of t.directory p)
+    → (k : Holder) → k ≢ of_owner o → ids_held d t.departed k ≡ held t k
+others_held t d o rest (of_owner p) differs = rest p (λ e. differs (ap of_owner e))
+others_held t d o rest (of_batch b) differs = refl
 
 -- what a tenant sees adds nothing
 pub seen-stands : {H : Type 0} (stands : H → RefId → Ref → Type 0) (t : RefTable H) (caller : ℕ)
@@ -34,6 +55,7 @@ seen-stands stands t caller points r s = record {
   refs = stand-equal (stands t.history) (refs_of t.directory) r.owned
       (refs_after (store_of caller points r) r).owned (owned-seen caller r.owned) s.refs;
   apart = s.apart;
+  left = s.left;
   no_more = s.no_more;
 }
 
@@ -45,7 +67,8 @@ same-stands stands t h r same s = record {
   counter = s.counter;
   refs = stand-same (stands t.history) (stands h) (refs_of t.directory) r.owned same s.refs;
   apart = s.apart;
-  no_more = no_more-same (stands t.history) (stands h) (refs_of t.directory) same s.no_more;
+  left = kept-same (stands t.history) (stands h) (ids_left t.departed) same s.left;
+  no_more = no_more-same (stands t.history) (stands h) (held t) same s.no_more;
 }
 
 -- a ref that the tenant sees changes
@@ -59,11 +82,13 @@ with_changed_ref-stands stands t h s r name id f e change now = record {
   counter = now.counter ∙ sym (changed_of-counter name.owner name.number f s);
   refs = stand-changed (stands t.history) (stands h) (refs_of t.directory) (refs_after s r).owned
       (refs_after (with_changed_ref name f s) r).owned name.owner name.number id f
-      (id-there t.directory s.tenant name.owner name.number id e) now.apart change
+      (id-there t.directory s.tenant name.owner name.number id e)
+      (owned-apart t.directory t.departed now.apart) change
       (changed-here t.directory s r name.owner name.number f id e)
       (changed-elsewhere t.directory s r name.owner name.number f id e) now.refs;
   apart = now.apart;
-  no_more = no_more-changed (stands t.history) (stands h) (refs_of t.directory) name.owner
+  left = kept-changed (stands t.history) (stands h) (ids_left t.departed) id f change now.left;
+  no_more = no_more-changed (stands t.history) (stands h) (held t) (of_owner name.owner)
       name.number id (id-there t.directory s.tenant name.owner name.number id e) change.others
       now.no_more;
 }
@@ -82,6 +107,7 @@ unseen-stands stands t s r name f e now = record {
       (stands-within (stands t.history) t.directory s r name.owner name.number now.refs) e))
       now.refs;
   apart = now.apart;
+  left = now.left;
   no_more = now.no_more;
 }
 
@@ -112,7 +138,7 @@ pub made-stands : {H : Type 0} (stands : H → RefId → Ref → Type 0) (t : Re
     → IsAbsent (stands t.history) id → stands h id ref
     → SameBut id (stands t.history) (stands h)
     → TableStands stands t r
-    → TableStands stands (record { counter = t.counter; directory = d; history = h }) (with_ref o ref r)
+    → TableStands stands (record t { directory = d; history = h }) (with_ref o ref r)
 made-stands stands t d h r o id ref adds rest none here same s = record {
   counter = s.counter;
   refs = stand-made (stands t.history) (stands h) (refs_of t.directory) (refs_of d) r.owned
@@ -121,10 +147,12 @@ made-stands stands t d h r o id ref adds rest none here same s = record {
       (λ p differs. ap (λ b. if b then r.owned p ++ ref ∷ [] else r.owned p)
       (same_owner-apart p o differs))
       none here same s.refs;
-  apart = apart-made (refs_of t.directory) (refs_of d) o id adds rest
-      (fresh (stands t.history) (refs_of t.directory) r.owned id none s.refs) s.apart;
-  no_more = no_more-made (stands t.history) (stands h) (refs_of t.directory) (refs_of d) o id adds
-      rest same s.no_more;
+  apart = apart-made (held t) (ids_held d t.departed) (of_owner o) id adds
+      (others_held t d o rest)
+      (fresh-held (stands t.history) t.directory t.departed r.owned id none s.refs s.left) s.apart;
+  left = kept-made (stands t.history) (stands h) (ids_left t.departed) id none same s.left;
+  no_more = no_more-made (stands t.history) (stands h) (held t) (ids_held d t.departed) (of_owner o)
+      id adds (others_held t d o rest) same s.no_more;
 }
 
 -- a ref was made, and could not be kept
@@ -132,16 +160,37 @@ pub undone-stands : {H : Type 0} (stands : H → RefId → Ref → Type 0) (t : 
     (d : Directory) (h : H) (r : Refs)
     → ((p : OwnerData) → refs_of d p ≡ refs_of t.directory p) → SameRefs (stands t.history) (stands h)
     → TableStands stands t r
-    → TableStands stands (record { counter = t.counter; directory = d; history = h }) r
+    → TableStands stands (record t { directory = d; history = h }) r
 undone-stands stands t d h r as_it_was same s =
     let now = same-stands stands t h r same s in
     let ids : refs_of d ≡ refs_of t.directory = fun_ext as_it_was in
+    let all : ids_held d t.departed ≡ held t = fun_ext (by_holder as_it_was) in
     record {
       counter = s.counter;
       refs = subst (λ ids. StandFor (stands h) ids r.owned) (sym ids) now.refs;
-      apart = subst AreApart (sym ids) now.apart;
-      no_more = subst (KeepsNoMore (stands h)) (sym ids) now.no_more;
-    }
+      apart = subst (λ (ids : Holder → List RefId). AreApart ids) (sym all) now.apart;
+      left = now.left;
+      no_more = subst (KeepsNoMore (stands h)) (sym all) now.no_more;
+    } where
+      by_holder : ((p : OwnerData) → refs_of d p ≡ refs_of t.directory p)
+          → (k : Holder) → ids_held d t.departed k ≡ held t k
+      by_holder same (of_owner p) = same p
+      by_holder same (of_batch b) = refl
+
+-- what the refs of owners stand for where those of one are gone
+stand-without : {H : Type 0} (stands : H → RefId → Ref → Type 0) (t : RefTable H)
+    (d : Directory) (h : H) (r : Refs) (o : OwnerData)
+    → refs_of d o ≡ []
+    → ((p : OwnerData) → p ≢ o → refs_of d p ≡ refs_of t.directory p)
+    → ((i : RefId) → ((n : ℕ) → slice_get (refs_of t.directory o) n ≢ Some i)
+    → (ref : Ref) → stands t.history i ref → stands h i ref)
+    → TableStands stands t r → StandFor (stands h) (refs_of d) (without_refs o r).owned
+stand-without stands t d h r o gone rest keeps s =
+    stand-released (stands t.history) (stands h) (refs_of t.directory) (refs_of d) r.owned
+    (without_refs o r).owned o gone rest
+    (ap (λ b. if b then [] else r.owned o) (same_owner-refl o))
+    (λ p differs. ap (λ b. if b then [] else r.owned p) (same_owner-apart p o differs))
+    keeps (owned-apart t.directory t.departed s.apart) s.refs
 
 -- a tenant has no refs any more
 pub released-stands : {H : Type 0} (stands : H → RefId → Ref → Type 0) (t : RefTable H)
@@ -152,18 +201,87 @@ pub released-stands : {H : Type 0} (stands : H → RefId → Ref → Type 0) (t 
     → ((i : RefId) → ((n : ℕ) → slice_get (refs_of t.directory o) n ≢ Some i)
     → (ref : Ref) → stands t.history i ref ↔ stands h i ref)
     → TableStands stands t r
-    → TableStands stands (record { counter = t.counter; directory = d; history = h }) (without_refs o r)
+    → TableStands stands (record t { directory = d; history = h }) (without_refs o r)
 released-stands stands t d h r o gone rest dropped keeps s = record {
   counter = s.counter;
-  refs = stand-released (stands t.history) (stands h) (refs_of t.directory) (refs_of d) r.owned
-      (without_refs o r).owned o gone rest
-      (ap (λ b. if b then [] else r.owned o) (same_owner-refl o))
-      (λ p differs. ap (λ b. if b then [] else r.owned p) (same_owner-apart p o differs))
-      (λ i none ref. (keeps i none ref).0) s.apart s.refs;
-  apart = apart-released (refs_of t.directory) (refs_of d) o gone rest s.apart;
-  no_more = no_more-released (stands t.history) (stands h) (refs_of t.directory) (refs_of d) o rest
-      dropped keeps s.no_more;
+  refs = stand-without stands t d h r o gone rest (λ i none ref. (keeps i none ref).0) s;
+  apart = apart-released (held t) (ids_held d t.departed) (of_owner o) gone
+      (others_held t d o rest) s.apart;
+  left = kept-released (stands t.history) (stands h) t.directory t.departed o s.apart
+      (λ i none ref. (keeps i none ref).0) s.left;
+  no_more = no_more-released (stands t.history) (stands h) (held t) (ids_held d t.departed)
+      (of_owner o) (others_held t d o rest) dropped keeps s.no_more;
 }
+
+-- its refs are left to be dropped
+pub departed-stands : {H : Type 0} (stands : H → RefId → Ref → Type 0) (t : RefTable H)
+    (d : Directory) (left : Departed) (r : Refs) (o : OwnerData)
+    → refs_of d o ≡ []
+    → ((p : OwnerData) → p ≢ o → refs_of d p ≡ refs_of t.directory p)
+    → GetsBatch t.departed (refs_of t.directory o) left
+    → TableStands stands t r
+    → TableStands stands (record t { directory = d; departed = left }) (without_refs o r)
+departed-stands stands t d left r o gone rest gets s = record {
+  counter = s.counter;
+  refs = stand-without stands t d t.history r o gone rest (λ i none ref it. it) s;
+  apart = apart-moved (held t) (ids_held d left) (of_owner o) (of_batch gets.batch) gets.here gone
+      others s.apart;
+  left = kept-moved (stands t.history) (ids_left t.departed) (ids_left left)
+      (refs_of t.directory o) (r.owned o) gets.batch gets.here gets.others (s.refs o) s.left;
+  no_more = no_more-moved (stands t.history) (held t) (ids_held d left) (of_owner o)
+      (of_batch gets.batch) gets.none gets.here others s.no_more;
+} where
+  others : (k : Holder) → k ≢ of_owner o → k ≢ of_batch gets.batch → ids_held d left k ≡ held t k
+  others (of_owner p) differs other = rest p (λ e. differs (ap of_owner e))
+  others (of_batch b) differs other = gets.others b (λ e. other (ap of_batch e))
+
+-- where nothing was left of it
+pub empty-stands : {H : Type 0} (stands : H → RefId → Ref → Type 0) (t : RefTable H)
+    (left : Departed) (r : Refs) → ((b : ℕ) → ids_left left b ≡ ids_left t.departed b)
+    → TableStands stands t r → TableStands stands (record t { departed = left }) r
+empty-stands stands t left r same s =
+    let batches : ids_left left ≡ ids_left t.departed = fun_ext same in
+    let all : ids_held t.directory left ≡ held t = fun_ext (by_holder same) in
+    record {
+      counter = s.counter;
+      refs = s.refs;
+      apart = subst (λ (ids : Holder → List RefId). AreApart ids) (sym all) s.apart;
+      left = subst (AreKept (stands t.history)) (sym batches) s.left;
+      no_more = subst (KeepsNoMore (stands t.history)) (sym all) s.no_more;
+    } where
+      by_holder : ((b : ℕ) → ids_left left b ≡ ids_left t.departed b)
+          → (k : Holder) → ids_held t.directory left k ≡ held t k
+      by_holder same (of_owner p) = refl
+      by_holder same (of_batch b) = same b
+
+-- one of its refs is dropped
+pub dropped-stands : {H : Type 0} (stands : H → RefId → Ref → Type 0) (t : RefTable H)
+    (left : Departed) (h : H) (r : Refs) (id : RefId) → LosesId t.departed id left
+    → IsAbsent (stands h) id → SameBut id (stands t.history) (stands h)
+    → TableStands stands t r → TableStands stands (record t { departed = left; history = h }) r
+dropped-stands stands t left h r id loses gone same s = record {
+  counter = s.counter;
+  refs = stand-dropped (stands t.history) (stands h) (refs_of t.directory) r.owned id
+      (λ o n. none (of_owner o) n) same s.refs;
+  apart = apart-dropped (held t) new (of_batch loses.batch) id all s.apart;
+  left = kept-dropped (stands t.history) (stands h) (ids_left t.departed) (ids_left left) id
+      (λ b n i. was-held (held t) new (of_batch loses.batch) id all (of_batch b) n i)
+      (λ b n. none (of_batch b) n) same s.left;
+  no_more = no_more-dropped (stands t.history) (stands h) (held t) new (of_batch loses.batch) id all
+      gone same s.no_more;
+} where
+  new : Holder → List RefId
+  new = ids_held t.directory left
+
+  others : (k : Holder) → k ≢ of_batch loses.batch → ids_held t.directory left k ≡ held t k
+  others (of_owner p) differs = refl
+  others (of_batch b) differs = loses.others b (λ e. differs (ap of_batch e))
+
+  all : Loses (held t) (of_batch loses.batch) id new
+  all = (loses.here, others)
+
+  none : (k : Holder) (n : ℕ) → slice_get (new k) n ≢ Some id
+  none = none-held (held t) new (of_batch loses.batch) id all s.apart
 
 -- all that a tenant names is there
 pub all-named : {H : Type 0} (stands : H → RefId → Ref → Type 0) (t : RefTable H) (s : Store)

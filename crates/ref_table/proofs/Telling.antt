@@ -103,6 +103,7 @@ performed_make-performs stands t r caller points d least most n number s = recor
     refs = stand-equal (stands t.history) (refs_of t.directory) (with_ref (tenant caller) ref r).owned
         (refs_after (performed_make (store_of caller points r) d least most).store r).owned same s.refs;
     apart = s.apart;
+    left = s.left;
     no_more = s.no_more;
   };
 } where

@@ -1,5 +1,5 @@
 -- What a step may ask of the refs, and what comes of it.
-use Rattle.std.specs.Prelude.{ℕ, ◌+◌, pos, [], ◌∷◌, ◌++◌, length, Option, None, Some}
+use Rattle.std.specs.Prelude.{ℕ, pos, [], ◌∷◌, ◌++◌, length, Option, None, Some}
 use Rattle.std.specs.Prelude.{option_map}
 use Rattle.value_data.specs.Datum as datum
 use Rattle.value_data.specs.Datum.{Datum, OwnerData, shared, tenant}

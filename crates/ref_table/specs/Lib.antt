@@ -5,6 +5,7 @@ pub mod Commit
 pub mod Calls
 pub mod Refs
 pub mod Directory
+pub mod Departed
 pub mod Standing
 pub mod Told
 pub mod Placing

@@ -6,6 +6,9 @@ use Rattle.ref_history.specs.Changes.{Standing}
 use Rattle.ref_history.specs.declared.ref_id.RefId.{RefId}
 use Rattle.ref_table.specs.Refs.{Refs}
 use Rattle.ref_table.specs.Directory.{refs_of}
+use Rattle.ref_table.specs.Departed.{ids_left}
+use Rattle.ref_table.specs.declared.departed.Departed.{Departed}
+use Rattle.ref_table.specs.declared.directory.Directory.{Directory}
 use Rattle.ref_table.specs.declared.table.RefTable.{RefTable}
 
 -- the id stands for the ref, or neither is there
@@ -20,15 +23,29 @@ abbrev pub StandFor : Standing → (OwnerData → List RefId) → (OwnerData →
 StandFor standing ids refs = (owner : OwnerData) (n : ℕ)
     → Matches standing (slice_get (ids owner) n) (slice_get (refs owner) n)
 
+-- whose an id is: an owner's, or one of a batch that is left of a tenant that is gone
+pub data Holder : Type 0 where
+  of_owner : OwnerData → Holder
+  of_batch : ℕ → Holder
+
+abbrev pub ids_held : Directory → Departed → Holder → List RefId
+ids_held d gone (of_owner owner) = refs_of d owner
+ids_held d gone (of_batch batch) = ids_left gone batch
+
 -- no two refs have one id
-abbrev pub AreApart : (OwnerData → List RefId) → Type 0
-AreApart ids = (o p : OwnerData) (n m : ℕ) (id : RefId)
+abbrev pub AreApart : {K : Type 0} → (K → List RefId) → Type 0
+AreApart {K} ids = (o p : K) (n m : ℕ) (id : RefId)
     → slice_get (ids o) n ≡ Some id → slice_get (ids p) m ≡ Some id → (o ≡ p) × (n ≡ m)
 
+-- what is left of those who are gone is kept
+abbrev pub AreKept : Standing → (ℕ → List RefId) → Type 0
+AreKept standing ids = (batch n : ℕ) (id : RefId) → slice_get (ids batch) n ≡ Some id
+    → (r : Ref) × standing id r
+
 -- nothing is kept but these
-abbrev pub KeepsNoMore : Standing → (OwnerData → List RefId) → Type 0
+abbrev pub KeepsNoMore : Standing → (Holder → List RefId) → Type 0
 KeepsNoMore standing ids = (id : RefId) (r : Ref) → standing id r
-    → (owner : OwnerData) × (n : ℕ) × (slice_get (ids owner) n ≡ Some id)
+    → (holder : Holder) × (n : ℕ) × (slice_get (ids holder) n ≡ Some id)
 
 abbrev pub counter_of : {H : Type 0} → RefTable H → ℕ
 counter_of t = t.counter
@@ -37,5 +54,6 @@ pub record TableStands {H : Type 0} (stands : H → RefId → Ref → Type 0) (t
     : Type 0 where
   pub counter : counter_of t ≡ r.counter
   pub refs : StandFor (stands t.history) (refs_of t.directory) r.owned
-  pub apart : AreApart (refs_of t.directory)
-  pub no_more : KeepsNoMore (stands t.history) (refs_of t.directory)
+  pub apart : AreApart (ids_held t.directory t.departed)
+  pub left : AreKept (stands t.history) (ids_left t.departed)
+  pub no_more : KeepsNoMore (stands t.history) (ids_held t.directory t.departed)

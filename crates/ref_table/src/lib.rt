@@ -3,6 +3,7 @@
 #![tactic(auto)]
 
 mod commit;
+mod departed;
 mod directory;
 mod fitting;
 mod folding;

@@ -11,6 +11,7 @@ ghost use Rattle.ref_history.specs.Changes.{IsAbsent};
 ghost use Rattle.ref_history.specs.Effects.{first_ref};
 ghost use Rattle.ref_table.specs.Refs.{Refs, no_refs, store_of, with_ref, without_refs};
 
+use crate::departed::Departed;
 use crate::directory::Directory;
 use crate::outcome::Point;
 use ref_history::{Bounds, History, RefId};
@@ -27,6 +28,8 @@ pub struct RefTable<H> {
     // How many commits there were that changed a ref.
     pub(crate) counter: u128,
     pub(crate) directory: Directory,
+    // What tenants that are gone had.
+    pub(crate) departed: Departed,
     pub(crate) history: H,
 }
 
@@ -42,6 +45,7 @@ impl<H: History> RefTable<H> {
         RefTable {
             counter: 0,
             directory: Directory::new(alloc),
+            departed: Departed::new(alloc),
             history,
         }
     }
@@ -100,14 +104,41 @@ impl<H: History> RefTable<H> {
         }
     }
 
-    /// Drops the refs of a tenant. What the shared refs hold stays. It takes a step for each
-    /// version that is kept of the tenant's refs, and no memory.
+    /// Takes the refs of a tenant away. What the shared refs hold stays. It takes about the
+    /// logarithm of the number of tenants: the refs are dropped by `drop_departed`, or here where
+    /// memory is refused.
     pub fn release(&mut self, tenant: u64)
         ensures { (r : Refs) → TableStands H.stands self.old r
             → TableStands H.stands self.new (without_refs (tenant_owner tenant) r) }
     {
-        if let Some(ids) = self.directory.remove(tenant) {
+        let Some(ids) = self.directory.remove(tenant) else {
+            return;
+        };
+        if let Err(ids) = self.departed.add(ids) {
             drop_refs(&mut self.history, &ids);
+        }
+    }
+
+    /// Drops so many refs, at the most, of tenants that are gone, and answers whether more are
+    /// left. Their values are put behind these, so that the caller drops them; one that finds no
+    /// room there is dropped at once. It takes a step for each version that was kept of a ref.
+    pub fn drop_departed(&mut self, most: usize, values: &mut Vec<Value>) -> bool
+        ensures { (r : Refs) → TableStands H.stands self.old r → TableStands H.stands self.new r }
+    {
+        for _done in 0..most {
+            if self.departed.is_empty() {
+                return false;
+            }
+            self.drop_next(values);
+        }
+        !self.departed.is_empty()
+    }
+
+    fn drop_next(&mut self, values: &mut Vec<Value>)
+        ensures { (r : Refs) → TableStands H.stands self.old r → TableStands H.stands self.new r }
+    {
+        if let Some(id) = self.departed.take() {
+            self.history.take_ref(id, values);
         }
     }
 }

@@ -7,6 +7,7 @@ ghost use Rattle.server_rules.specs.Grounds.{IsRight};
 ghost use Rattle.repl_core.specs.Standing.{is_reached};
 
 use crate::machine::Machine;
+use repl_values::Value;
 use server_rules::Refusal;
 use tenant_world::Tenant;
 
@@ -47,7 +48,8 @@ impl Machine {
         }
     }
 
-    /// A tenant goes, and its refs with it. What is left of it is given. It takes no memory.
+    /// A tenant goes, and its refs with it. What is left of it is given, and its refs are left for
+    /// `drop_departed`. It takes no memory.
     pub fn close(&mut self, number: u64) -> Result<Box<Tenant>, Refusal>
         ensures done { (g : Ground) (w : World) → MachineStands g self.old w
             → OnOk result (AcceptsStep g w (closes number) self.new tenant_gone) }
@@ -61,5 +63,29 @@ impl Machine {
         self.refs.release(number);
         self.places_taken = self.places_taken.saturating_sub(1);
         Ok(tenant)
+    }
+
+    /// Drops so many refs, at the most, of tenants that are gone, and answers whether more are
+    /// left. Their values are put behind these, so that the caller drops them; one that finds no
+    /// room there is dropped at once. It takes a step for each version that was kept of a ref.
+    pub fn drop_departed(&mut self, most: usize, values: &mut Vec<Value>) -> bool
+        ensures { (g : Ground) (w : World) → MachineStands g self.old w
+            → MachineStands g self.new w }
+    {
+        self.refs.drop_departed(most, values)
+    }
+
+    // The same as `close`, and nothing is left to drop.
+    pub(crate) fn close_whole(&mut self, number: u64) -> Result<(), Refusal>
+        ensures done { (g : Ground) (w : World) → MachineStands g self.old w
+            → OnOk result (AcceptsStep g w (closes number) self.new tenant_gone) }
+        ensures refused { (g : Ground) (w : World) → MachineStands g self.old w
+            → IfErr result (RefusesStep g w (closes number) self.new) }
+        ensures free { result ≢ Err Refusal.NoMemory }
+    {
+        drop(self.close(number)?);
+        let mut values = Vec::new(self.alloc);
+        let _is_more = self.drop_departed(usize::MAX, &mut values);
+        Ok(())
     }
 }

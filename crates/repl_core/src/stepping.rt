@@ -91,7 +91,7 @@ impl Machine {
             }
             Step::Drain(number) => Ok(of_drained(self.drain_copied(*number)?)),
             Step::Bye(number) => {
-                drop(self.close(*number)?);
+                self.close_whole(*number)?;
                 Ok(StepAnswers {
                     given: StepAnswer::Gone,
                     noted: StepAnswer::Gone,

@@ -1,5 +1,5 @@
 -- Nodes of a list, and one step from a node to the older one.
-use Rattle.std.proofs.Common.{◌≡◌, ◌<◌, ◌-◌, ◌+◌, ℕ, suc, List, sym, ap}
+use Rattle.std.proofs.Common.{◌≡◌, ◌<◌, ◌-◌, ◌+◌, ℕ, suc, List, length, sym, ap}
 use Rattle.std.proofs.Common.{◌∙◌, subst, arith, cond, leb, Bool, Some}
 use Rattle.std.proofs.lemmas.Bool.{lt-leb}
 use Rattle.value_data.specs.Inside.View.{view}
@@ -32,6 +32,14 @@ read-left ns n k i older point stamp h e is young =
     ∙ ap (λ (s : ℕ). cond (leb s point) (Some (view (node_at ns i).content)) rest) (sym is)
     ∙ ap (λ (b : Bool). cond b (Some (view (node_at ns i).content)) rest)
     (lt-leb stamp point young))
+
+-- the next node is one that can be freed
+pub empty-here : (s : Space) (n k i : ℕ) → k < n → CanEmpty (n - k) i s
+    → (i < length s.nodes) × (s.free < length s.nodes)
+empty-here s n k i h can =
+    let here : CanEmpty (suc (n - (k + 1))) i s = subst (λ m. CanEmpty m i s) (one-less n k h) can
+    in
+    (here.0, here.1)
 
 pub empty-left : (s : Space) (n k i older : ℕ) → k < n → CanEmpty (n - k) i s
     → older ≡ older_at s.nodes i → CanEmpty (n - (k + 1)) older (emptied i s)

@@ -4,6 +4,7 @@ ghost use Rattle.std.specs.Prelude.{◌≡◌, ◌<◌, ◌≤◌, ◌^◌, leng
 use crate::halves::{joined, lower_half, put_upper, upper_at, upper_half};
 use crate::node::{Joint, Node};
 use std::alloc::{AllocError, Global};
+use std::mem;
 use value_data::Value;
 
 // More nodes have no places.
@@ -92,6 +93,15 @@ impl NodeList {
         ensures nodes { listed self.new ≡ slice_set (listed self.old) place node }
         ensures room { room_in self.new ≡ room_in self.old }
     {
+        drop(self.replace(place, node));
+    }
+
+    // The same, and gives the value that was there, which no clause says.
+    pub(crate) fn replace(&mut self, place: u32, node: Node) -> Value
+        requires { place < length (listed self.old) }
+        ensures nodes { listed self.new ≡ slice_set (listed self.old) place node }
+        ensures room { room_in self.new ≡ room_in self.old }
+    {
         let place = place as usize;
         put_upper(&mut self.uppers, place, upper_half(node.stamp));
         self.joints[place] = Joint {
@@ -99,7 +109,7 @@ impl NodeList {
             older: node.older,
             newer: node.newer,
         };
-        self.contents[place] = node.content;
+        mem::replace(&mut self.contents[place], node.content)
     }
 
     pub(crate) fn set_version(&mut self, place: u32, stamp: u128, content: Value)

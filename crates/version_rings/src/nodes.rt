@@ -133,12 +133,13 @@ impl Nodes {
         Ok(())
     }
 
-    fn empty(&mut self, place: u32)
+    // Frees a node, and gives what it held.
+    fn empty(&mut self, place: u32) -> Value
         requires within { place < length (listed self.old.list) }
         requires fits { self.old.free < length (listed self.old.list) }
         ensures { space self.new ≡ emptied place (space self.old) }
     {
-        self.list.set(
+        let content = self.list.replace(
             place,
             Node {
                 stamp: 0,
@@ -149,6 +150,7 @@ impl Nodes {
         );
         self.first_free = place;
         self.free += 1;
+        content
     }
 
     // Frees so many nodes, from a place on to older ones.
@@ -159,7 +161,20 @@ impl Nodes {
         let mut place = newest;
         for _done in 0..count {
             let older = self.list.older(place);
-            self.empty(place);
+            drop(self.empty(place));
+            place = older;
+        }
+    }
+
+    // The same, and puts what they held behind these values. What finds no room there is dropped.
+    pub(crate) fn take_all(&mut self, newest: u32, count: u32, values: &mut Vec<Value>)
+        requires { CanEmpty count newest (space self.old) }
+        ensures { space self.new ≡ all_emptied count newest (space self.old) }
+    {
+        let mut place = newest;
+        for _done in 0..count {
+            let older = self.list.older(place);
+            let _ = values.push(self.empty(place));
             place = older;
         }
     }

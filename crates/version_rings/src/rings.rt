@@ -170,6 +170,19 @@ impl Rings {
         }
     }
 
+    /// The same, and puts the versions' values behind these, so that the caller drops them. What
+    /// finds no room there is dropped at once.
+    pub fn take_out(&mut self, id: RingId, values: &mut Vec<Value>)
+        ensures gone { versions self.new id ≡ [] }
+        ensures others { SameBut id self.old self.new }
+        ensures slots { self.new.slots ≡ self.old.slots }
+        ensures free { self.new.free ≡ self.old.free + length (versions self.old id) }
+    {
+        if let Some(ring) = self.rings.try_remove(id.place) {
+            self.nodes.take_all(ring.newest, ring.count, values);
+        }
+    }
+
     /// How many nodes there are, free ones too. It takes no memory.
     pub fn slots(&self) -> usize
         ensures slots { result ≡ self.now.slots }

@@ -1,9 +1,8 @@
-use Rattle.std.proofs.Common.{◌≡◌, ◌≤◌, arith, ap, cond, Bool, None, Some}
+use Rattle.std.proofs.Common.{arith, ap, None}
 use Rattle.std.specs.Prelude.{slice_set}
-use Rattle.ref_history.specs.Rung.{room_for, reserved_in, ring_number}
+use Rattle.ref_history.specs.Rung.{room_for, ring_number}
 use Rattle.ref_history.proofs.Ringed.{same-others, found-there, reserved-set, in-kept}
 use Rattle.ref_history.proofs.Ringed.{set-others, not-ring}
-use Rattle.ref_history.proofs.ring_history.RingHistoryHistory.drop_ref.Goals.{then-kept, else-kept}
 use Rattle.ref_history.proofs.ring_history.RingHistoryHistory.drop_ref.Goals as goal
 
 pub invariant_of-self : goal.invariant_of-self
@@ -15,24 +14,9 @@ invariant_of-self c =
     let set = reserved-set refs c.args.id.place None
     (in-kept refs c.args.id.place k there.1) in
     let same = ap room_for there.1 in
-    let bound : reserved_in (slice_set refs c.args.id.place None) ≤ c.if-kept.reserved =
-    elim c.if-kept.branch [
-      | then-kept w ↦
-          let one : room_for (Some k) ≡ 1 = ap (λ (b : Bool). cond b 1 0) w.if-kept.true in
-          omega (
-            arith,
-            set,
-            same,
-            one,
-            w.reserved-is,
-            w.saturating_sub-reserved.ensures,
-            was.counted,
-          )
-      | else-kept w ↦
-          let none : room_for (Some k) ≡ 0 = ap (λ (b : Bool). cond b 1 0) w.if-kept.false in
-          omega (arith, set, same, none, w.reserved-is, was.counted)
-    ] in
-    record { counted = bound }
+    record {
+      counted = omega (arith, set, same, c.reserved_without-reserved.ensures, was.counted);
+    }
 
 pub returns-clause-others : goal.returns-clause-others
 returns-clause-others c =

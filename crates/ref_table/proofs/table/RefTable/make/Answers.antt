@@ -10,7 +10,7 @@ use Rattle.ref_table.specs.Directory.{refs_of}
 use Rattle.ref_table.specs.Standing.{TableStands}
 use Rattle.ref_table.specs.Told.{Performs}
 use Rattle.ref_table.proofs.Standing.{lengths, undone}
-use Rattle.ref_table.proofs.Tables.{made-stands, undone-stands}
+use Rattle.ref_table.proofs.Tables.{made-stands, undone-stands, same-stands, on-err}
 use Rattle.ref_table.proofs.Telling.{performed_make-performs}
 use Rattle.ref_table.proofs.table.RefTable.make.Goals as goal
 
@@ -56,3 +56,8 @@ returns-in-Err-clause-as_it_was g c = λ r s.
     (undone (stands c.args.self.now.history) (stands c.make.new.self) (stands c.drop_ref.new.self)
     c.in_ok-id.id c.in_ok-id.ensures.is_new c.in_ok-id.ensures.others c.drop_ref.ensures.gone
     c.drop_ref.ensures.others) s
+
+pub returns-in_err-id-clause-as_it_was : goal.returns-in_err-id-clause-as_it_was
+returns-in_err-id-clause-as_it_was g c = λ r s. on-err c.from_residual.result
+    (same-stands g.H.History.stands c.args.self.now c.make.new.self r
+    c.in_err-id.ensures.as_it_was s)

@@ -8,7 +8,7 @@ use Rattle.ref_table.specs.Standing.{TableStands}
 use Rattle.ref_table.proofs.Rooms.{have-room}
 use Rattle.ref_table.proofs.Adding.{all-added, with_raised_counter-stands}
 use Rattle.ref_table.proofs.Committing.{no-places, with_all-some}
-use Rattle.ref_table.proofs.Tables.{same-stands, seen-stands}
+use Rattle.ref_table.proofs.Tables.{same-stands, seen-stands, on-err}
 use Rattle.ref_table.proofs.table.RefTable.put_all.Goals as goal
 
 pub add_all-requires : goal.add_all-requires
@@ -49,3 +49,8 @@ returns-clause-put g c = λ r caller points changes s named e.
     (subst (λ n. AddsAll stands (n + 1) c.reserve_all.new.history c.args.placed.items
     c.add_all.new.history) s.counter c.add_all.ensures)
     now)
+
+pub returns-in_err-reserve_all-clause-as_it_was : goal.returns-in_err-reserve_all-clause-as_it_was
+returns-in_err-reserve_all-clause-as_it_was g c = λ r s. on-err c.from_residual.result
+    (same-stands g.H.History.stands c.args.self.now c.reserve_all.new.history r
+    c.reserve_all.ensures.same s)
