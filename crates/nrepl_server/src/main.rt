@@ -1,5 +1,5 @@
-//! An nREPL server: `nrepl_server serve` serves connections, and `nrepl_server pipe` one stream from
-//! standard input to standard output.
+//! An nREPL server: `nrepl_server serve` serves connections, and `nrepl_server pipe` one stream
+//! from standard input to standard output.
 #![tactic(auto)]
 
 mod options;

@@ -35,9 +35,9 @@ HeldTheSame w point xs v other ys =
     ≡ held_at other (ref_in_world (shared_ref number) v)
 
 -- An attempt under way in each of two servers, both at one `dosync` with the same setting, whatever
--- was printed before. Where their own answers are equal one by one as far as both have one, and each
--- shared ref that both name held the same at the two read points, the values that one saw begin
--- those that the other saw.
+-- was printed before. Where their own answers are equal one by one as far as both have one, and
+-- each shared ref that both name held the same at the two read points, the values that one saw
+-- begin those that the other saw.
 abbrev pub AttemptsAgree : Ground → World → ℕ → Actor → World → ℕ → Actor → Type 0
 AttemptsAgree g w t a v u b =
     (d : Setting) (printed other : List ℕ) (x : UnderWay w t a) (y : UnderWay v u b)
@@ -47,8 +47,8 @@ AttemptsAgree g w t a v u b =
     → OneBegins (values_after printed (body_in d) (answers_in x.since))
     (values_after other (body_in d) (answers_in y.since))
 
--- so it is in any two runs of one server, by whatever steps of whatever tenants, of actors that were
--- honest
+-- so it is in any two runs of one server, by whatever steps of whatever tenants, of actors that
+-- were honest
 abbrev pub AttemptsInRunsAgree : Type 0
 AttemptsInRunsAgree =
     (g : Ground) (steps other_steps : List Step) (t u : ℕ) (a b : Actor)

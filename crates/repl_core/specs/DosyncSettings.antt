@@ -33,7 +33,8 @@ DosyncsAreAttempts =
     ≡ attempts d.kept.retries (body_in d) next d.kept
 
 -- An attempt began behind this trace of its form, and this text was printed by then. It is one at
--- this `dosync`: what the form's evaluation had still to do is what so many attempts at that body do.
+-- this `dosync`: what the form's evaluation had still to do is what so many attempts at that body
+-- do.
 pub record IsAttemptAt (g : Ground) (form : Run) (before : List Exchanged) (d : Setting)
     (printed : List ℕ) : Type 0 where
   pub more : ℕ

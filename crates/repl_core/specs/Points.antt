@@ -23,8 +23,8 @@ IsOfPoint point r answer =
     (answer ≡ reading retry)
     ⊎ ((d : Datum) × (answer ≡ reading (found d)) × (held_at point r ≡ Some d))
 
--- Where a step is a read in an attempt, its answer is what the ref held at the attempt's read point,
--- or that the attempt is to be made again: whatever its history has lost since.
+-- Where a step is a read in an attempt, its answer is what the ref held at the attempt's read
+-- point, or that the attempt is to be made again: whatever its history has lost since.
 abbrev pub IsReadOfItsPoint : World → Step → StepAnswer → Type 0
 IsReadOfItsPoint w s answer =
     (t : ℕ) (a : Actor) (name : RefNameData) (told : AnswerData) (point : ℕ)

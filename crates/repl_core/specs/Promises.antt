@@ -1,6 +1,6 @@
 -- What the calls of a machine promise of a step, for every server for which the machine stands
 -- before.
-use Rattle.std.specs.Prelude.{◌≡◌, ℕ, Bool, true, Result, Err, IfOk, OnOk, IfErr}
+use Rattle.std.specs.Prelude.{◌≡◌, ◌<◌, ℕ, Bool, true, Result, Err, IfOk, OnOk, IfErr}
 use Rattle.server_rules.specs.Ground.{Ground}
 use Rattle.server_rules.specs.Grounds.{IsRight}
 use Rattle.server_rules.specs.Machine.Turns.{goes, step_of, turn_step}
@@ -11,6 +11,7 @@ use Rattle.server_rules.specs.declared.refusal.Refusal.{Refusal}
 use Rattle.repl_core.specs.Going.{AreWalkedIn, AcceptsHonestStep, RefusesHonestStep, is_seen_step}
 use Rattle.repl_core.specs.Grounds.{Evaluates}
 use Rattle.repl_core.specs.Kept.{EndsAsKept}
+use Rattle.repl_core.specs.Left.{steps_at}
 use Rattle.repl_core.specs.Standing.{MachineStands, open_in}
 use Rattle.repl_core.specs.Steps.{AcceptsStep, RefusesStep, is_accepted_step}
 use Rattle.repl_core.specs.declared.machine.Machine.{Machine}
@@ -83,8 +84,8 @@ DeclinesToGo t a old walks_old new walks_new result =
     → AreWalkedIn walks_old (open_in t w)
     → IfErr result (RefusesHonestStep g w t a new walks_new)
 
--- where a commit can still be counted, and what the form does is known, memory is refused only where
--- the turn is accepted
+-- where a commit can still be counted, and what the form does is known, memory is refused only
+-- where the turn is accepted
 abbrev pub GoingLacksMemory : ℕ → Actor → Machine → Walks → Type 0 → Bool
     → Result (Unit {0}) Refusal → Type 0
 GoingLacksMemory t a old walks_old can_count is_known result =
@@ -93,3 +94,8 @@ GoingLacksMemory t a old walks_old can_count is_known result =
     → can_count → result ≡ Err Refusal.NoMemory
     → is_seen_step is_known (step_of g w (goes t a)) ≡ true
     → is_accepted_step (turn_step g w (goes t a)) ≡ true
+
+-- where a commit can still be counted, memory is refused only to a tenant that has a step left
+abbrev pub LacksNoStep : ℕ → Machine → Type 0 → Result (Unit {0}) Refusal → Type 0
+LacksNoStep t old can_count result =
+    can_count → result ≡ Err Refusal.NoMemory → 0 < steps_at t old

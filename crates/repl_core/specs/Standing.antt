@@ -30,7 +30,8 @@ around_in r = record { counter = r.counter; refs = r.owned shared }
 -- the tenant of the code is that of the rules, and its refs are those of the table
 pub record TenantStands (g : Ground) (r : Refs) (t : ℕ) (code : Tenant) (kept : TenantData)
     : Type 0 where
-  pub stands : (around : Around) → world.StandsForState g code kept.state (store_in around t kept.mine)
+  pub stands : (around : Around) → world.StandsForState g code kept.state
+      (store_in around t kept.mine)
   pub refs : kept.mine.refs ≡ r.owned (tenant t)
 
 -- a tenant that is not open has no refs

@@ -45,7 +45,8 @@ impl Machine {
         tenant.hear(piece)
     }
 
-    /// An actor begins its next form, or takes up its next request. What it is answered comes twice.
+    /// An actor begins its next form, or takes up its next request. What it is answered comes
+    /// twice.
     pub fn start(
         &mut self,
         number: u64,

@@ -10,7 +10,7 @@ use server_rules::{Actor, Refusal};
 
 impl Machine {
     ghost use Rattle.repl_core.specs.Left.{left_at, steps_at};
-    ghost use Rattle.repl_core.specs.Promises.{GoesOn, DeclinesToGo, GoingLacksMemory};
+    ghost use Rattle.repl_core.specs.Promises.{GoesOn, DeclinesToGo, GoingLacksMemory, LacksNoStep};
 
     /// Makes the honest step of an actor: begins a form, or asks what its evaluation asks, or ends
     /// it as that ends. The evaluations of the tenant's forms are lent, and go on. A step that is
@@ -20,8 +20,7 @@ impl Machine {
         ensures refused { DeclinesToGo number actor self.old walks.old self.new walks.new result }
         ensures no_memory { GoingLacksMemory number actor self.old walks.old
             (counter_of self.old.refs < u128.MAX) (keeps_walk walks.old walks.new actor) result }
-        ensures unworn { counter_of self.old.refs < u128.MAX → result ≡ Err Refusal.NoMemory
-            → 0 < steps_at number self.old }
+        ensures unworn { LacksNoStep number self.old (counter_of self.old.refs < u128.MAX) result }
         ensures steps { OnOk result (steps_at number self.old ≡ steps_at number self.new + 1) }
         ensures kept { OnErr result (steps_at number self.new ≡ steps_at number self.old) }
         ensures held { result ≡ Err Refusal.Held → 0 < length (left_at number self.old).outbox }

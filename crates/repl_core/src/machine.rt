@@ -109,8 +109,8 @@ impl Drop for Machine {
 impl Machine {
     ghost use Rattle.repl_core.specs.Standing.{MachineStands};
 
-    /// A server to which nobody came. The text that all share is evaluated; the first fault of it is
-    /// the error. Where there is none, there is something that such a server stands on.
+    /// A server to which nobody came. The text that all share is evaluated; the first fault of it
+    /// is the error. Where there is none, there is something that such a server stands on.
     pub fn new(alloc: Global, config: &Config) -> Result<Machine, LoadError>
         ensures stands { (g : Ground) → IsConfigured g config.now
             → IfOk result (λ made. MachineStands g made (opened_world g)) }
@@ -140,9 +140,9 @@ impl Machine {
         self.tenants.get(number)
     }
 
-    /// The first of a tenant's sessions and its bare requests that has a form or a request to begin,
-    /// if the tenant is open and one has. It never names the actor of agents. It looks at each that
-    /// has something to do, and takes no memory.
+    /// The first of a tenant's sessions and its bare requests that has a form or a request to
+    /// begin, if the tenant is open and one has. It never names the actor of agents. It looks at
+    /// each that has something to do, and takes no memory.
     pub fn ready(&self, number: u64) -> Option<Actor>
         ensures { (g : Ground) (w : World) → MachineStands g self.now w
             → result ≡ option_and_then (λ it. ready it.state) (open_in number w) }

@@ -38,7 +38,7 @@ impl Walks {
 
     /// Does what is next for an actor of the tenant whose evaluations these are: begins a form,
     /// answers one ask of it or ends it. What a form asks of refs is asked of this table.
-    pub fn go(
+    pub(crate) fn go(
         &mut self,
         tenant: &mut Tenant,
         refs: &mut RefTable<RingHistory>,
@@ -102,7 +102,8 @@ impl Walks {
     ) -> Result<(), Refusal>
         requires asks { IsAsking (walk_at self.old actor) }
         requires counter { counter_of refs.old < u128.MAX }
-        ensures done { (g : Ground) (l : LoneTenant) (r : Refs) (run : rules.Run) (w : Walk) → IsRight g
+        ensures done { (g : Ground) (l : LoneTenant) (r : Refs) (run : rules.Run) (w : Walk)
+            → IsRight g
             → PartsStand g (parts tenant.old refs.old self.old) l r
             → running_in actor l.state ≡ Some run
             → walk_at self.old actor ≡ Some (Progress.Asks w)
@@ -139,13 +140,15 @@ impl Walks {
         actor: Actor,
     ) -> Result<(), Refusal>
         requires { IsEnded (walk_at self.old actor) }
-        ensures done { (g : Ground) (l : LoneTenant) (r : Refs) (run : rules.Run) (e : endings.Ending)
+        ensures done { (g : Ground) (l : LoneTenant) (r : Refs) (run : rules.Run)
+            (e : endings.Ending)
             → IsRight g → PartsStand g (parts tenant.old refs.now self.old) l r
             → running_in actor l.state ≡ Some run
             → walk_at self.old actor ≡ Some (Progress.Ends e) → OnOk result
             (AcceptsHonestDeed g l r (deeds.ends actor (walk_ended run e))
             (parts tenant.new refs.now self.new)) }
-        ensures refused { (g : Ground) (l : LoneTenant) (r : Refs) (run : rules.Run) (e : endings.Ending)
+        ensures refused { (g : Ground) (l : LoneTenant) (r : Refs) (run : rules.Run)
+            (e : endings.Ending)
             → IsRight g → PartsStand g (parts tenant.old refs.now self.old) l r
             → running_in actor l.state ≡ Some run
             → walk_at self.old actor ≡ Some (Progress.Ends e) → IfErr result

@@ -127,8 +127,8 @@ fn given_back<L: Ledger>(alloc: Global, places: Places<L>) -> Result<Vec<Seat<L>
     Ok(seats)
 }
 
-// One request is heard, begun, asked for a name and ended; two replies are taken out, and the tenant
-// goes. With the step that opened it that is eight entries, all made from its seats.
+// One request is heard, begun, asked for a name and ended; two replies are taken out, and the
+// tenant goes. With the step that opened it that is eight entries, all made from its seats.
 fn expect_counts<L: Ledger>(rt: &impl Abort, alloc: Global, blank: Blank) -> Result<(), Fail>
     requires name { blank.name ≡ L.name }
     requires parts { (blank.parts ≡ L.parts) × (blank.parts ≡ 5000001) }

@@ -13,7 +13,7 @@ use Rattle.server_rules.specs.declared.actor.Actor.{Actor}
 use Rattle.server_rules.specs.declared.refusal.Refusal.{Refusal}
 use Rattle.tenant_parts.specs.Serving.{RingRefTable, ServesWithAttempts}
 use Rattle.tenant_parts.specs.declared.attempts.Attempts.{Attempts}
-use Rattle.tenant_asks.specs.Acting.{AcceptsOutcome, RefusesOutcome, is_accepted}
+use Rattle.tenant_asks.specs.Acting.{AcceptsOutcome, RefusesOutcome, IsActorStep, is_accepted}
 use Rattle.tenant_asks.specs.Memories.{Remembers}
 use Rattle.tenant_asks.specs.declared.memory.Remembered.{Remembered}
 
@@ -57,3 +57,12 @@ LacksMemoryForAsk a ask old result = (g : Ground) (q : TenantState) (s : Store) 
     → Remembers g s.tenant old.memory q → ServesWithAttempts old.table old.attempts s r
     → result ≡ Err Refusal.NoMemory
     → is_accepted (asked_result g a old.state ask q s).outcome ≡ true
+
+-- what is promised of an ask
+pub record ServesAsk {A : Type 0} (a : Actor) (ask : AskData) (old new : Site)
+    (result : Result A Refusal) (answer : A → StepAnswer)
+    : Type 0 where
+  pub acted : AcceptsAsk a ask old new result answer
+  pub declined : RefusesAsk a ask old new result
+  pub no_memory : LacksMemoryForAsk a ask old result
+  pub step : IsActorStep old.memory new.memory old.state new.state result

@@ -26,7 +26,7 @@ ghost use Rattle.tenant_asks.specs.Asking.{Answers, answered_plan, is_of_names};
 ghost use Rattle.tenant_asks.specs.Asking.{is_of_cells, why_waiting};
 ghost use Rattle.tenant_asks.specs.Sends.{committed_sends, is_told_yes, sender_view};
 ghost use Rattle.tenant_asks.specs.Cells.{cells_data};
-ghost use Rattle.tenant_asks.specs.Promises.{AcceptsAsk, RefusesAsk, LacksMemoryForAsk, site};
+ghost use Rattle.tenant_asks.specs.Promises.{ServesAsk, site};
 ghost use Rattle.tenant_asks.specs.Rooms.{ActorHasRoom};
 ghost use Rattle.tenant_parts.specs.Promises.{TellsCall, ServesStill, CountsOne, CountsIfTold};
 ghost use Rattle.tenant_parts.specs.Serving.{ServesWithAttempts};
@@ -64,18 +64,11 @@ pub fn ask(
     ask: &Ask,
 ) -> Result<AskAnswers, Refusal>
     requires { counter_of refs.old < u128.MAX }
-    ensures acted { AcceptsAsk actor (ask_view ask.now)
+    ensures served { ServesAsk actor (ask_view ask.now)
         (site memory.old refs.old attempts.old (actor_view state.old))
         (site memory.new refs.new attempts.new (actor_view state.new))
         result (λ it. ask_answer_view it.given) }
-    ensures declined { RefusesAsk actor (ask_view ask.now)
-        (site memory.old refs.old attempts.old (actor_view state.old))
-        (site memory.new refs.new attempts.new (actor_view state.new)) result }
-    ensures no_memory { LacksMemoryForAsk actor (ask_view ask.now)
-        (site memory.old refs.old attempts.old (actor_view state.old)) result }
     ensures same { IfOk result AreSameAnswers }
-    ensures step { IsActorStep memory.old memory.new (actor_view state.old) (actor_view state.new)
-        result }
     ensures counted { CountsOne refs.old refs.new result }
 {
     let Some(hand) = &state.hand else {

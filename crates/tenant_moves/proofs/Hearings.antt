@@ -25,7 +25,8 @@ use Rattle.server_rules.specs.Readings.{AreRight, message_limit}
 use Rattle.server_rules.specs.Request.{Waiting}
 use Rattle.server_rules.specs.Tenant.{ActorData, seat_of, TenantState, with_replies}
 use Rattle.server_rules.specs.declared.actor.Actor.{Actor}
-use Rattle.tenant_moves.specs.Heard.{IsHeard}
+use Rattle.std.specs.Prelude.{OnErr}
+use Rattle.tenant_moves.specs.Heard.{IsHeard, Parts}
 use Rattle.tenant_moves.specs.Holds.{PartsStandFor}
 use Rattle.tenant_moves.specs.HasReadAll.{HasReadAll}
 use Rattle.tenant_moves.specs.Handled.{told_broken, with_piece}
@@ -125,3 +126,18 @@ heard-all g t q piece messages broken count d s es waiting right stands ready is
 pub none-ready-back : (d : Decoder) (o : Option Earlier) → ready_of d ≡ [] → ready_of (before_last_piece d o) ≡ []
 none-ready-back d None none = none
 none-ready-back d (Some e) none = refl
+
+pub parts-same : {s u : NamedSessions} {es fs : List (Entry ActorData)} {vs ws : List (List ℕ)}
+    → s ≡ u → es ≡ fs → vs ≡ ws
+    → ◌≡◌ {A = Parts} (record { sessions = s; actors = es; waiting = vs })
+    (record { sessions = u; actors = fs; waiting = ws })
+parts-same {s} {u} {es} {fs} {vs} {ws} sessions actors waiting =
+    let first : NamedSessions → Parts = λ x. record { sessions = x; actors = es; waiting = vs } in
+    let second : List (Entry ActorData) → Parts =
+    λ x. record { sessions = u; actors = x; waiting = vs } in
+    let third : List (List ℕ) → Parts = λ x. record { sessions = u; actors = fs; waiting = x } in
+    ap first sessions ∙ ap second actors ∙ ap third waiting
+
+pub on-err : {T E : Type 0} {P : Type 0} (v : Result T E) → P → OnErr v P
+on-err (Ok x) p = tt
+on-err (Err e) p = p

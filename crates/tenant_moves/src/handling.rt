@@ -25,7 +25,7 @@ use tenant_parts::{Actors, Batch, Outbox};
 ///
 /// A message takes about the logarithm of the number of sessions, and what it asks for; a list of
 /// the sessions looks at each.
-pub fn handle_messages(
+pub(crate) fn handle_messages(
     alloc: Global,
     messages: VecDeque<Ben>,
     is_broken: bool,

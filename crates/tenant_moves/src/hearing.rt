@@ -4,14 +4,9 @@ ghost use Rattle.std.specs.Prelude.{OnOk, OnErr};
 ghost use Rattle.bencode_wire.specs.Tree.{Tree};
 ghost use Rattle.bencode_wire.specs.Inside.Decoder.{ready_of, fault_of, DecoderStands, IsUnchanged};
 ghost use Rattle.bencode_wire.specs.Inside.Return.{CanReturn};
-ghost use Rattle.server_rules.specs.Ground.{Ground};
-ghost use Rattle.server_rules.specs.Readings.{AreRight};
-ghost use Rattle.server_rules.specs.Tenant.{TenantState};
 ghost use Rattle.tenant_parts.specs.View.{actors_view};
-ghost use Rattle.tenant_parts.specs.Replies.{waiting_bytes};
-ghost use Rattle.tenant_moves.specs.Heard.{IsHeard};
-ghost use Rattle.tenant_moves.specs.Holds.{PartsStandFor, AreSeated};
-ghost use Rattle.tenant_moves.specs.HasReadAll.{HasReadAll};
+ghost use Rattle.tenant_moves.specs.Heard.{parts_of, CanHear, HearsPiece, HearsNothing};
+ghost use Rattle.tenant_moves.specs.Holds.{AreSeated};
 
 use crate::handling::handle_messages;
 use bencode_wire::{Decoder, WireFault};
@@ -31,21 +26,13 @@ pub fn hear(
     actors: &mut Actors,
     outbox: &mut Outbox,
 ) -> Result<usize, AllocError>
-    requires ready { ready_of decoder.old ≡ [] }
-    requires sound { fault_of decoder.old ≡ None }
-    requires seated { AreSeated sessions.old (actors_view actors.old) }
-    ensures heard { (g : Ground) (t : ℕ) (q : TenantState) → AreRight g.readings
-        → HasReadAll g q.heard decoder.old
-        → PartsStandFor g t q sessions.old (actors_view actors.old) (waiting_bytes outbox.old)
-        → IfOk result (λ count. IsHeard g t q piece.now count
-        decoder.new sessions.new (actors_view actors.new) (waiting_bytes outbox.new)) }
+    requires { CanHear decoder.old (parts_of sessions.old actors.old outbox.old) }
+    ensures heard { HearsPiece piece.now decoder.old (parts_of sessions.old actors.old outbox.old)
+        result decoder.new (parts_of sessions.new actors.new outbox.new) }
     ensures ready { ready_of decoder.new ≡ [] }
     ensures seated { AreSeated sessions.new (actors_view actors.new) }
-    ensures stream_stays { (g : Ground) (bytes : List ℕ) → HasReadAll g bytes decoder.old
-        → OnErr result (HasReadAll g bytes decoder.new) }
-    ensures sessions_stay { OnErr result (sessions.new ≡ sessions.old) }
-    ensures actors_stay { OnErr result (actors_view actors.new ≡ actors_view actors.old) }
-    ensures replies_stay { OnErr result (waiting_bytes outbox.new ≡ waiting_bytes outbox.old) }
+    ensures stays { HearsNothing decoder.old (parts_of sessions.old actors.old outbox.old)
+        result decoder.new (parts_of sessions.new actors.new outbox.new) }
 {
     let is_broken = feed_piece(decoder, piece)?;
     let messages = decoder.take_ready();

@@ -16,7 +16,6 @@ mod telling;
 
 pub use effects::RequestEffects;
 pub use ending::{After, form_end, go_on};
-pub use handling::handle_messages;
 pub use hearing::hear;
 pub use request::{Opened, open_request};
 pub use starting::{Begun, BegunRequest, NextForm, begin, begin_request, next_form};

@@ -1,5 +1,5 @@
 -- What the calls of a tenant promise of a deed, for every tenant for which the code stands before.
-use Rattle.std.specs.Prelude.{◌≡◌, true, Result, Err, IfOk, IfErr}
+use Rattle.std.specs.Prelude.{◌≡◌, true, ℕ, List, Option, MatchOption, Result, Err, IfOk, IfErr}
 use Rattle.repl_asks.specs.Inside.View.{ask_view}
 use Rattle.repl_asks.specs.declared.ask.Ask.{Ask}
 use Rattle.repl_asks.specs.Job.{EndData, EndingData}
@@ -7,7 +7,7 @@ use Rattle.ref_table.specs.Refs.{Refs, refs_after}
 use Rattle.server_rules.specs.DeedResult.{deed_result}
 use Rattle.server_rules.specs.Ground.{Ground}
 use Rattle.server_rules.specs.Grounds.{IsRight}
-use Rattle.server_rules.specs.Plan.{Deed, StepAnswer, asks_for, ends}
+use Rattle.server_rules.specs.Plan.{Deed, StepAnswer, asks_for, ends, drains, reply_given}
 use Rattle.ref_table.specs.Store.{Store}
 use Rattle.server_rules.specs.Tenant.{TenantState}
 use Rattle.server_rules.specs.declared.actor.Actor.{Actor}
@@ -43,6 +43,20 @@ abbrev pub LacksMemory : {A : Type 0} → Deed → Tenant → Result A Refusal �
 LacksMemory deed old result = (g : Ground) (q : TenantState) (s : Store) → IsRight g
     → StandsForState g old q s → result ≡ Err Refusal.NoMemory
     → is_accepted (deed_result g s q deed).outcome ≡ true
+
+-- the oldest reply is taken out as the rules have it, or where none waits they refuse that
+abbrev pub Drains : {A : Type 0} → Tenant → Tenant → Option A → (A → List ℕ) → Type 0
+Drains old new result bytes = (g : Ground) (q : TenantState) (s : Store) → StandsForState g old q s
+    → let d = deed_result g s q drains in MatchOption result (RefusesDeed g q s d new Refusal.Idle)
+    (λ reply. AcceptsDeed g d new (reply_given (bytes reply)))
+
+-- the same of a call that may fail
+abbrev pub DrainsIfOk : {A E : Type 0} → Tenant → Tenant → Result (Option A) E → (A → List ℕ)
+    → Type 0
+DrainsIfOk old new result bytes = (g : Ground) (q : TenantState) (s : Store)
+    → StandsForState g old q s → let d = deed_result g s q drains in
+    IfOk result (λ it. MatchOption it (RefusesDeed g q s d new Refusal.Idle)
+    (λ reply. AcceptsDeed g d new (reply_given (bytes reply))))
 
 -- The same of what a form asks. The table of refs serves the tenant before and behind it.
 

@@ -9,7 +9,8 @@ ghost use Rattle.server_rules.specs.Tenant.{TenantState};
 ghost use Rattle.tenant_parts.specs.View.{actor_view, hand_view};
 ghost use Rattle.tenant_asks.specs.Acting.{AcceptsOutcome, RefusesOutcome, IsActorStep};
 ghost use Rattle.tenant_asks.specs.Acting.{is_accepted};
-ghost use Rattle.tenant_world.specs.Actions.{next_action_view, hand_of_action, action_end, agents_behind};
+ghost use Rattle.tenant_world.specs.Actions.{next_action_view, hand_of_action, action_end};
+ghost use Rattle.tenant_world.specs.Actions.{agents_behind};
 ghost use Rattle.tenant_world.specs.Actions.{action_end_view, sends_of};
 ghost use Rattle.tenant_world.specs.Answers.{start_answer_view, AreSameStarts};
 ghost use Rattle.tenant_asks.specs.Memories.{Remembers};
@@ -168,7 +169,8 @@ pub(crate) fn prepare_end(
 /// The action is over. There is room for what it sends.
 pub(crate) fn settle_end(agents: &mut Agents, end: ActionEnd)
     requires { length (sends_of end) ≤ room_of agents.old }
-    ensures { agents_view agents.new ≡ agents_behind (action_end_view end) (agents_view agents.old) }
+    ensures { agents_view agents.new
+        ≡ agents_behind (action_end_view end) (agents_view agents.old) }
 {
     match end {
         ActionEnd::Nothing => {}

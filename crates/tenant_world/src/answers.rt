@@ -56,7 +56,8 @@ impl StartAnswer {
         matches!(self, StartAnswer::Interrupted)
     }
 
-    // The same once more. It takes constant time, and fails only where 2^63 owners share a part of it.
+    // The same once more. It takes constant time, and fails only where 2^63 owners share a part of
+    // it.
     fn copy(&self) -> Result<StartAnswer, AllocError>
         ensures { IfOk result (λ copied. start_answer_view copied ≡ start_answer_view self.now) }
     {

@@ -188,7 +188,8 @@ fn accept(
     aside: &mut Aside,
 ) -> Result<(), AllocError>
     requires { SpellsEnd aside.old.spelled (finished_view finished.now) }
-    ensures acted { (g : Ground) (q : TenantState) (s : Store) (h : rules.WorkInHand) (run : rules.Run)
+    ensures acted { (g : Ground) (q : TenantState) (s : Store) (h : rules.WorkInHand)
+        (run : rules.Run)
         (e : EndingData) → e.end ≡ finished_view finished.now
         → Remembers g s.tenant memory.old q → (actor_view state.old).hand ≡ Some h
         → h.running ≡ Some run

@@ -37,6 +37,7 @@ use tenant_parts::{Actors, Addressee, Attempts, Manner, Outbox, Run};
 impl Tenant {
     ghost use Rattle.tenant_world.specs.Standing.{StandsForState, AcceptsDeed, RefusesDeed};
     ghost use Rattle.tenant_world.specs.Standing.{replies_of};
+    ghost use Rattle.tenant_world.specs.Promises.{Drains, DrainsIfOk};
 
     /// A tenant that has heard nothing. Its number chooses the ids of its sessions, under the
     /// server's seed. It sees these shared names. It fails only for want of memory.
@@ -81,25 +82,18 @@ impl Tenant {
         ensures oldest { MatchOption result
             ((replies_of self.old ≡ []) × (replies_of self.new ≡ []))
             (λ reply. replies_of self.old ≡ reply.items ∷ replies_of self.new) }
-        ensures drained { (g : Ground) (q : TenantState) (s : Store) → StandsForState g self.old q s
-            → MatchOption result
-            (RefusesDeed g q s (deed_result g s q deeds.drains) self.new Refusal.Idle)
-            (λ reply. AcceptsDeed g (deed_result g s q deeds.drains) self.new
-            (reply_given reply.items)) }
+        ensures drained { Drains self.old self.new result (λ reply. reply.items) }
     {
         self.memory.outbox.take()
     }
 
     /// The same, with the reply twice. It fails only for want of memory, and then changes nothing.
     pub fn drain_copied(&mut self) -> Result<Option<Replies>, AllocError>
-        ensures drained { (g : Ground) (q : TenantState) (s : Store) → StandsForState g self.old q s
-            → IfOk result (λ it. MatchOption it
-            (RefusesDeed g q s (deed_result g s q deeds.drains) self.new Refusal.Idle)
-            (λ replies. AcceptsDeed g (deed_result g s q deeds.drains) self.new
-            (reply_given replies.given.items))) }
+        ensures drained { DrainsIfOk self.old self.new result (λ replies. replies.given.items) }
         ensures same { IfOk result (λ it. IfSome it AreSameReplies) }
         ensures stays { OnErr result (self.new ≡ self.old) }
-        ensures no_memory { (g : Ground) (q : TenantState) (s : Store) → StandsForState g self.old q s
+        ensures no_memory { (g : Ground) (q : TenantState) (s : Store)
+            → StandsForState g self.old q s
             → OnErr result (is_accepted (deed_result g s q deeds.drains).outcome ≡ true) }
     {
         let noted = self.copy_oldest()?;
@@ -121,8 +115,8 @@ impl Tenant {
         }
     }
 
-    /// The first actor that has a form or a request to begin. It looks at each that has something to
-    /// do, up to that one, and takes no memory.
+    /// The first actor that has a form or a request to begin. It looks at each that has something
+    /// to do, up to that one, and takes no memory.
     pub fn ready(&self) -> Option<Actor>
         ensures { (g : Ground) (q : TenantState) (s : Store) → StandsForState g self.now q s
             → result ≡ ready q }
@@ -153,15 +147,16 @@ impl Tenant {
         self.actors.get(actor)?.hand.as_ref()?.running.as_ref()
     }
 
-    /// The text of the request that an actor takes up next, if nothing of it is in hand and one waits.
+    /// The text of the request that an actor takes up next, if nothing of it is in hand and one
+    /// waits.
     pub fn next_text(&self, actor: Actor) -> Option<&str>
         ensures { option_copied result ≡ next_text_of actor (actors_view self.now.actors) }
     {
         self.actors.get(actor)?.next_text()
     }
 
-    /// To whom and how it is told that the form of an actor ended, if something of it is in hand. None
-    /// also where a file's session was closed, and where 2^63 owners share the request.
+    /// To whom and how it is told that the form of an actor ended, if something of it is in hand.
+    /// None also where a file's session was closed, and where 2^63 owners share the request.
     pub fn addressee(&self, actor: Actor) -> Option<Addressee>
         ensures { (g : Ground) (q : TenantState) (s : Store) → StandsForState g self.now q s
             → IfSome result (IsAddressee actor q) }
@@ -210,7 +205,8 @@ impl Tenant {
 
     /// What has come of the stream. It takes no memory.
     pub fn wire(&self) -> Wire
-        ensures { (g : Ground) (q : TenantState) (s : Store) → IsRight g → StandsForState g self.now q s
+        ensures { (g : Ground) (q : TenantState) (s : Store) → IsRight g
+            → StandsForState g self.now q s
             → result ≡ wire_at (g.readings.stream q.heard).ending }
     {
         a_stream_has_one_reading();

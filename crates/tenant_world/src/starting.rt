@@ -1,5 +1,6 @@
 // An actor begins its next form, or takes up its next request; that of agents the next action.
-ghost use Rattle.std.specs.Prelude.{◌≡◌, ℕ, true, false, None, Some, option_map, IfOk, IfErr, ◌<◌, Err};
+ghost use Rattle.std.specs.Prelude.{◌≡◌, ℕ, true, false, None, Some, option_map, IfOk, IfErr, ◌<◌};
+ghost use Rattle.std.specs.Prelude.{Err};
 ghost use Rattle.std.specs.Prelude.{OnOk, OnErr};
 ghost use Rattle.server_rules.specs.Ground.{Ground};
 ghost use Rattle.server_rules.specs.Request as rules;
@@ -75,13 +76,15 @@ fn start_form(
     actor: Actor,
     state: &mut ActorState,
 ) -> Result<StartAnswers, Refusal>
-    ensures acted { (g : Ground) (t : ℕ) (q : TenantState) (h : rules.WorkInHand) → retries ≡ g.retries
+    ensures acted { (g : Ground) (t : ℕ) (q : TenantState) (h : rules.WorkInHand)
+        → retries ≡ g.retries
         → Remembers g t memory.old q → (actor_view state.old).hand ≡ Some h
         → IfOk result (λ s. AcceptsOutcome g t actor q
         (held_or q (start_outcome actor (actor_view state.old)
         (next_begun g h (actor_state actor q) h.forms) q))
         memory.new (actor_view state.new) (start_answer_view s.given)) }
-    ensures declined { (g : Ground) (t : ℕ) (q : TenantState) (h : rules.WorkInHand) → retries ≡ g.retries
+    ensures declined { (g : Ground) (t : ℕ) (q : TenantState) (h : rules.WorkInHand)
+        → retries ≡ g.retries
         → Remembers g t memory.old q → (actor_view state.old).hand ≡ Some h
         → IfErr result (RefusesOutcome g t q
         (held_or q (start_outcome actor (actor_view state.old)

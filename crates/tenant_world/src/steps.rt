@@ -76,7 +76,8 @@ impl Tenant {
         requires { counter_of refs.old < u128.MAX }
         ensures done { DoesAsk actor question.now self.old self.new refs.old refs.new result
             ask_answer_view }
-        ensures refused { DeclinesAsk actor question.now self.old self.new refs.old refs.new result }
+        ensures refused { DeclinesAsk actor question.now self.old self.new refs.old refs.new
+            result }
         ensures no_memory { AskLacksMemory actor question.now self.old refs.old result }
         ensures counted { CountsStep self.old self.new result }
         ensures commits { CountsOne refs.old refs.new result }
@@ -98,7 +99,8 @@ impl Tenant {
         requires { counter_of refs.old < u128.MAX }
         ensures done { DoesAsk actor question.now self.old self.new refs.old refs.new result
             (λ it. ask_answer_view it.given) }
-        ensures refused { DeclinesAsk actor question.now self.old self.new refs.old refs.new result }
+        ensures refused { DeclinesAsk actor question.now self.old self.new refs.old refs.new
+            result }
         ensures no_memory { AskLacksMemory actor question.now self.old refs.old result }
         ensures same { IfOk result AreSameAnswers }
         ensures counted { CountsStep self.old self.new result }

@@ -1,4 +1,4 @@
-use Rattle.std.proofs.Common.{◌≡◌, ◌∙◌, sym, ap, ◌++◌, length, is_some, Option, arith}
+use Rattle.std.proofs.Common.{◌≡◌, ◌∙◌, refl, sym, ap, ◌++◌, length, is_some, Option, arith}
 use Rattle.std.proofs.lemmas.Grind.{common_steps}
 use Rattle.std.proofs.lemmas.List.{length-map}
 use Rattle.bencode_wire.specs.Inside.View.{tree_view}
@@ -8,7 +8,7 @@ use Rattle.bencode_wire.specs.declared.fault.WireFault.{WireFault}
 use Rattle.server_rules.specs.Readings.{message_limit}
 use Rattle.server_rules.specs.Tenant.{TenantState}
 use Rattle.tenant_moves.specs.Holds.{PartsStandFor}
-use Rattle.tenant_moves.proofs.Hearings.{heard-all, none-ready-back}
+use Rattle.tenant_moves.proofs.Hearings.{heard-all, none-ready-back, parts-same, on-err}
 use Rattle.tenant_moves.proofs.hearing.hear.Goals as goal
 
 pub returns-in-Ok-clause-heard : goal.returns-in-Ok-clause-heard
@@ -30,15 +30,30 @@ returns-in-Ok-clause-heard c = λ g t q right reads held.
     heard-all g t q piece messages c.in_ok-is_broken.is_broken c.len-count.result c.settle.new.self _ _ _ right taken none broken count
     (c.in-Ok.ensures.taken g t start first)
 
-pub returns-in-Err-clause-stream_stays : goal.returns-in-Err-clause-stream_stays
-returns-in-Err-clause-stream_stays c = λ g bytes reads.
-    let before = (g.readings.stream bytes).messages in
-    let back = c.take_ready-messages.ensures.returns message_limit bytes before (c.in_ok-is_broken.ensures.returns message_limit bytes before reads.stands c.requires.ready) in
-    record {
-      stands = c.take_back.ensures.stands message_limit bytes before back;
-      ready = c.take_back.ensures.ready message_limit bytes before back;
-      fault = c.take_back.ensures.fault message_limit bytes before back ∙ sym c.requires.sound ∙ reads.fault;
-    }
+pub returns-in-Err-clause-stays : goal.returns-in-Err-clause-stays
+returns-in-Err-clause-stays c = (
+  λ g bytes reads.
+      let before = (g.readings.stream bytes).messages in
+      let back = c.take_ready-messages.ensures.returns message_limit bytes before (c.in_ok-is_broken.ensures.returns message_limit bytes before reads.stands c.requires.ready) in
+      record {
+        stands = c.take_back.ensures.stands message_limit bytes before back;
+        ready = c.take_back.ensures.ready message_limit bytes before back;
+        fault = c.take_back.ensures.fault message_limit bytes before back ∙ sym c.requires.sound ∙ reads.fault;
+      },
+  parts-same c.in-Err.ensures.sessions_stay c.in-Err.ensures.actors_stay c.in-Err.ensures.replies_stay,
+)
+
+pub returns-in_err-is_broken-clause-stays : goal.returns-in_err-is_broken-clause-stays
+returns-in_err-is_broken-clause-stays c =
+    let same = c.in_err-is_broken.ensures.stays in
+    on-err c.from_residual.result (
+      λ g bytes reads. record {
+        stands = c.in_err-is_broken.ensures.keeps message_limit bytes _ reads.stands;
+        ready = same.ready ∙ reads.ready;
+        fault = same.fault ∙ reads.fault;
+      },
+      refl,
+    )
 
 pub returns-in-Err-clause-ready : goal.returns-in-Err-clause-ready
 returns-in-Err-clause-ready c =

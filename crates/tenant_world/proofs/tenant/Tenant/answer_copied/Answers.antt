@@ -41,7 +41,7 @@ returns-clause-done c = λ g q s refs right stands serves.
     let some = subst (λ n. 0 < n) stands.steps c.in_ok-state.ensures.some in
     let before = actor_view c.in_ok-state.state.now in
     let d = carried_out s (p before) in
-    let acted = c.in_ok-answered.ensures.acted g q s refs stands.remembers
+    let acted = c.in_ok-answered.ensures.served.acted g q s refs stands.remembers
     (record { serves = serves; reaches = stands.attempts }) in
     let actor = actor_view c.ask.new.state in
     let lends = lends-from g a actor c.args.self.now _ q s stands refl refl refl (c.lend.follows.holds c.ask.new.state (ap is_ok c.in_ok-state.was)) in
@@ -68,13 +68,13 @@ returns-in_err-answered-clause-refused c = λ g q s r right stands serves.
     let actor = actor_view c.ask.new.state in
     let deed = deed_result g s q (deeds.asks_for a ask) in
     let why = c.in_err-answered.field-0.0 in
-    let declined = c.in_err-answered.ensures.declined g q s r stands.remembers
+    let declined = c.in_err-answered.ensures.served.declined g q s r stands.remembers
     (record { serves = serves; reaches = stands.attempts }) in
     let lends = lends-from g a actor c.args.self.now _ q s stands refl refl refl (c.lend.follows.holds c.ask.new.state (ap is_ok c.in_ok-state.was)) in
     refuses-with g q s deed _ why (TableServes c.ask.new.refs s r)
     c.from_residual-in_err-answered.result c.from_residual-in_err-answered.ensures.1
     (refuses-declined g s.tenant a q s p deed before c.ask.new.memory why _ (asks-by g q s a ask) some there declined.0
-    (λ r. restored g a _ q s actor lends r declined.1.reaches (there ∙ ap Some (sym c.in_err-answered.ensures.step.stays))))
+    (λ r. restored g a _ q s actor lends r declined.1.reaches (there ∙ ap Some (sym c.in_err-answered.ensures.served.step.stays))))
     declined.1.serves
 
 pub returns-in_err-answered-clause-no_memory : goal.returns-in_err-answered-clause-no_memory
@@ -88,7 +88,7 @@ returns-in_err-answered-clause-no_memory c = λ g q s r stands serves none.
     c.from_residual-in_err-answered.ensures.1 none in
     accepts-by q s a p (deed_result g s q (deeds.asks_for a ask)) (actor_view c.in_ok-state.state.now)
     (asks-by g q s a ask) some there
-    (c.in_err-answered.ensures.no_memory g q s r stands.remembers
+    (c.in_err-answered.ensures.served.no_memory g q s r stands.remembers
     (record { serves = serves; reaches = stands.attempts }) (ap (λ e. Err e) why))
 
 pub invariant_of-self-2 : goal.invariant_of-self-2
@@ -97,6 +97,6 @@ invariant_of-self-2 c =
     record {
       taken = self.taken;
       seated = still-seated (seat_of c.args.actor) (actor_view c.ask.new.state) _ _ _ _
-          c.ask.ensures.step.opened (c.lend.follows.holds c.ask.new.state (ap is_ok c.in_ok-state.was))
+          c.ask.ensures.served.step.opened (c.lend.follows.holds c.ask.new.state (ap is_ok c.in_ok-state.was))
           self.seated;
     }

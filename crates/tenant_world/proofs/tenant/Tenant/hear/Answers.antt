@@ -52,8 +52,12 @@ returns-then-is_held-clause-refused c = λ g q s right st.
       stands = stands-same g q s c.args.self.now _ refl refl refl refl refl refl st;
     }
 
-pub hear-requires-clause-seated : goal.hear-requires-clause-seated
-hear-requires-clause-seated c = seated-below _ _ c.args.self.now.seated
+pub hear-requires : goal.hear-requires
+hear-requires c = record {
+  ready = none-long (ready_of c.args.self.now.decoder) c.args.self.now.taken;
+  sound = sym (sym c.in_default.is ∙ c.fault.ensures);
+  seated = seated-below _ _ c.args.self.now.seated;
+}
 
 pub invariant_of-self-2 : goal.invariant_of-self-2
 invariant_of-self-2 c = record {
