@@ -27,7 +27,7 @@ from sockets import Connection, address_of
 NOT_CHECKED = """\
 The proofs of this program were not checked here: it was compiled without them.
 `python3 tools/session.py --proved` checks them, which takes half an hour to an
-hour on four processors."""
+hour and a half on four processors."""
 # Stands before a prompt with its form, which a terminal shows already.
 PROMPTED = "\0"
 EXAMPLE = re.compile(r"^    [a-z.]+=> (.*)$", re.MULTILINE)
