@@ -7,10 +7,10 @@ through crates.txt that leads there: some 260,000 of them for the crates on top,
 first check begins. Here both are asked once, and answered the same (test_gate.py).
 
 `rt ci` counts the tests of a crate that has none as work that waits, and so gives a library for
-which all others wait, and the program behind them all, one job where three processors are idle. Here
-it gets those that no other proof has; and a library with much code gets three in any case, since it
-goes on when the others of its time are done, and then with the jobs that it began with. The number of
-jobs changes no verdict: the kernel checks each item once.
+which all others wait, and the program and the tests behind them all, one job where three processors
+are idle. Here each gets those that no other proof has; and a library with much code gets three in any
+case, since it goes on when the others of its time are done, and then with the jobs that it began with.
+The number of jobs changes no verdict: the kernel checks each item once.
 
 `rt ci` tries must-fail edits beside the proofs for which other crates wait. Here they run at a lower
 priority, and take the processors that the proofs leave.
@@ -141,9 +141,8 @@ def let_proofs_go_first(rt):
 
 
 def with_idle_processors(ci):
-    """The same proof; that of a library or a program has a job for each processor that no other
-    proof has, but at most four; a library, since crates wait for it, three at least if it has much
-    code."""
+    """The same proof; it has a job for each processor that no other proof has, but at most four; a
+    library, since crates wait for it, three at least if it has much code."""
     running, lock = [], threading.Lock()
 
     def proved(crate, flags, tests):
@@ -153,9 +152,9 @@ def with_idle_processors(ci):
         time.sleep(SECONDS_TO_BEGIN)
         idle = PROCESSORS - len(running)
         try:
-            is_library = crate.makes_rlib()
-            if flags[:1] == ["--jobs"] and (is_library or crate.is_program) and not tests:
-                # nothing waits for a program
+            is_library = crate.makes_rlib() and not tests
+            if flags[:1] == ["--jobs"] and (is_library or tests or crate.is_program):
+                # nothing waits for a program, nor for tests
                 has_much = is_library and lines_of_code(crate) >= MUCH_CODE
                 least = min(JOBS_FOR_MUCH, PROCESSORS) if has_much else 1
                 jobs = max(int(flags[1]), least, min(MOST_JOBS, 1 + idle))

@@ -181,8 +181,9 @@ class Library:
 
 
 class Jobs(unittest.TestCase):
-    def jobs(self, **lines):
-        """The jobs that libraries of so many lines get, whose proofs run at one time."""
+    def jobs(self, tests=False, **lines):
+        """The jobs that libraries of so many lines get, whose proofs, or the proofs of whose tests,
+        run at one time."""
         begun, together, given = threading.Barrier(len(lines)), threading.Barrier(len(lines)), {}
 
         def ci(crate, flags, tests):
@@ -192,7 +193,7 @@ class Jobs(unittest.TestCase):
         proved = quick_rt.with_idle_processors(ci)
         with tempfile.TemporaryDirectory() as room:
             crates = [Library(room, name, count) for name, count in lines.items()]
-            asked = [(it, ["--jobs", "1"], False) for it in crates]
+            asked = [(it, ["--jobs", "1"], tests) for it in crates]
             runs = [threading.Thread(target=proved, args=words) for words in asked]
             # each waits until all have begun, however slow the machine is
             with unittest.mock.patch("quick_rt.time.sleep", lambda _: begun.wait(timeout=60)):
@@ -216,6 +217,12 @@ class Jobs(unittest.TestCase):
         much = quick_rt.MUCH_CODE
         found = self.jobs(one=10, two=much - 1, three=10, much=much)
         self.assertEqual(found, {"one": 1, "two": 1, "three": 1, "much": 3})
+
+    def test_tests_get_what_is_idle(self):
+        much = quick_rt.MUCH_CODE
+        self.assertEqual(self.jobs(tests=True, one=much), {"one": 4})
+        found = self.jobs(tests=True, one=10, two=10, three=10, much=much)
+        self.assertEqual(found, {"one": 1, "two": 1, "three": 1, "much": 1})
 
     def test_no_more_jobs_than_processors(self):
         quick_rt.PROCESSORS = 2
