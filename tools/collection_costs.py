@@ -3,10 +3,11 @@
 
     tools/collection_costs.py [--reference JAR]
 
-A var holds the collection, so each call makes a new value beside it. Counted is the processor time
-of the built server, of which that of as many calls `(inc 1)` is taken: what is left is what the
-collection costs beyond a call. With --reference the same calls are timed in Clojure, whose JAR that
-is, in a loop that it has compiled, without what the loop costs when it calls `(inc 1)`."""
+A var and a local name hold the collection, so each call makes a new value beside it, and asks for no
+var. Counted is the processor time of the built server, of which that of as many calls `(inc 1)` is
+taken: what is left is what the collection costs beyond a call. With --reference the same calls are
+timed in Clojure, whose JAR that is, in a loop that it has compiled, without what the loop costs when
+it calls `(inc 1)`."""
 
 import os
 import subprocess
@@ -15,14 +16,14 @@ import sys
 from costs import SERVER, evaluated
 
 # Calls in a request, and requests that are counted.
-CALLS, REQUESTS = 1000, 20
+CALLS, REQUESTS = 1000, 50
 # Integers of a collection that one message spells.
 AT_ONCE = 60_000
 COUNTS = (1_000, 30_000, 1_000_000)
 # What is called, of a collection `v` with a key or a place `k` in its middle.
 VECTOR = ("(nth v k)", "(conj v 1)", "(assoc v k 1)", "(rest v)", "(cons 1 v)")
 LIST = ("(first v)", "(rest v)", "(conj v 1)")
-MAP = ("(get v k)", "(assoc v k -1)", "(assoc v :new 1)", "(dissoc v k)")
+MAP = ("(get v k)", "(assoc v k -1)", "(assoc v :new 1)", "(dissoc v k)", "(keys v)")
 KINDS = (("vector", "[]", VECTOR), ("list", "()", LIST), ("map", "{}", MAP))
 BASE = "(inc 1)"
 TIMED = """
@@ -37,7 +38,7 @@ def main(words):
     jar = words[1] if words[:1] == ["--reference"] else None
     heads = ["| Call", "Items", "Microseconds", *(["Clojure"] if jar else [])]
     print(" | ".join(heads) + " |\n|" + "---|" * len(heads))
-    base = time_of_call(BASE, [])
+    base = time_of_call(BASE, making("vector", "[]", 1))
     for kind, empty, calls in KINDS:
         for count in COUNTS:
             entries = count // 2 if kind == "map" and count == COUNTS[-1] else count
@@ -62,7 +63,7 @@ def making(kind, empty, count):
 
 def time_of_call(call, made):
     """Microseconds of processor time that one such call takes, behind these forms."""
-    request = f"(do {' '.join([call] * CALLS)} nil)"
+    request = f"(let [v v k k] {' '.join([call] * CALLS)} nil)"
     few, many = (processor_time([*made, *[request] * it]) for it in (REQUESTS, 3 * REQUESTS))
     return 1e6 * (many - few) / (2 * REQUESTS * CALLS)
 

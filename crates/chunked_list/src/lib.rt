@@ -10,7 +10,9 @@ mod changes;
 mod copies;
 mod forks;
 mod list;
+mod places;
 mod reads;
 mod tree;
 
 pub use list::ChunkedList;
+pub use places::RankedPlaces;

@@ -37,6 +37,16 @@ impl ChunkedList {
         ChunkedList { root: None }
     }
 
+    /// How many numbers there are.
+    pub fn len(&self) -> usize
+        ensures { result ≡ length self.now }
+    {
+        match &self.root {
+            Some(tree) => tree.len(),
+            None => 0,
+        }
+    }
+
     /// The number at a place of the list, counted from 0.
     pub fn at(&self, place: usize) -> usize
         requires { place < length self.now }

@@ -18,8 +18,11 @@ use Rattle.std.specs.contracts.impls.GlobalAllocator.TheImpl.{ghosts}
 use Rattle.std.specs.contracts.sync.ArcStr as text
 use Rattle.std.specs.contracts.option.Option as option
 use Rattle.std.specs.contracts.string.String as string
-use Rattle.value_data.proofs.value.Sequence.TheLaws.TheKnot as knot
+use Rattle.value_data.proofs.value.Entries.TheLaws.TheKnot as knot
 use Rattle.chunked_list.proofs.tree.Tree.TheLaws.TheKnot as lists
+use Rattle.chunked_list.specs.contracts.list.ChunkedList as chunked
+use Rattle.chunked_list.specs.contracts.places.RankedPlaces as ranked
+use Rattle.chunked_list.specs.contracts.places.RankedPlaces.TheInside as ranked_inside
 use Rattle.bencode_wire.proofs.ben.Ben.TheLaws.TheKnot as bens
 use Rattle.bytes.proofs.Crosses as blocks
 use Rattle.bytes.specs.contracts.block.Seen as seen
@@ -153,7 +156,28 @@ use mir.Syntax.{Ty}
 use mathlib.Core.List.{List, [], ◌∷◌}
 use Prim.Native.Nat.{ℕ}
 
-ruleset all = (sendable, crosses, maps.crosses, knot.crosses, lists.crosses)
+chunked-send : IsSend chunked.the_row
+chunked-send = search (sendable, crosses, lists.crosses) depth 40 fits 20000
+
+chunked-sync : IsSync chunked.the_row
+chunked-sync = search (sendable, crosses, lists.crosses) depth 40 fits 20000
+
+ranked-inside-send : IsSend ranked_inside.the_row
+ranked-inside-send =
+    declared_send ranked_inside.the_type (chunked-send, (chunked-send, (search sendable, tt)))
+
+ranked-inside-sync : IsSync ranked_inside.the_row
+ranked-inside-sync =
+    declared_sync ranked_inside.the_type (chunked-sync, (chunked-sync, (search sendable, tt)))
+
+ranked-send : IsSend ranked.the_row
+ranked-send = search (view_send, ranked-inside-send)
+
+ranked-sync : IsSync ranked.the_row
+ranked-sync = search (sendable, ranked-inside-sync)
+
+ruleset all =
+    (sendable, crosses, maps.crosses, knot.crosses, lists.crosses, ranked-send, ranked-sync)
 
 -- of the channel
 ruleset queued = (

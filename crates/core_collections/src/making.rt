@@ -2,14 +2,16 @@
 #![tactic(auto, using(crate::proofs::MapValues::seen))]
 
 ghost use Rattle.std.specs.Prelude.{◌≡◌, map, IfOk};
-ghost use Rattle.value_data.specs.Inside.View.{view, pair_view, pairs_view};
+ghost use Rattle.value_data.specs.Listed.{listed};
+ghost use Rattle.value_data.specs.Inside.View.{view};
 ghost use Rattle.repl_values.specs.Inside.FaultView.{Gives};
+ghost use Rattle.repl_values.specs.Making.{list_or_nil};
 ghost use Rattle.core_collections.specs.MapArguments.{map_pairs_in};
 ghost use Rattle.core_collections.specs.MapMeaning as meant;
 
 use crate::arguments::by_turns;
 use crate::map_function::MapFunction;
-use repl_values::{ApplyError, Table, Value, copy, list_or_nil, no_value_supplied, wrong_argument};
+use repl_values::{ApplyError, Sequence, Table, Value, no_value_supplied, wrong_argument};
 use std::alloc::{AllocError, Global};
 
 #[tactic(auto, using(crate::proofs::MapValues::seen), unfolding(crate::specs::MapMeaning::hash_map))]
@@ -37,56 +39,40 @@ pub(crate) fn table_of(alloc: Global, function: &str, argument: &Value) -> Resul
     }
 }
 
-// The pairs of a map. Nil stands for an empty one.
-fn pairs_of<'a>(
-    alloc: Global,
-    function: &str,
-    argument: &'a Value,
-) -> Result<&'a [(Value, Value)], ApplyError>
-    ensures { Gives (λ pairs. pairs_view pairs.now) result
-        (map_pairs_in function.now (view argument.now)) }
-{
-    match argument {
-        Value::Nil => Ok(&[]),
-        Value::Map(pairs) => Ok(pairs.as_slice()),
-        other => Err(ApplyError::Fault(wrong_argument(alloc, function, other)?)),
-    }
-}
-
 #[tactic(auto, using(crate::proofs::MapValues::seen), unfolding(crate::specs::MapMeaning::keys))]
 pub(crate) fn keys(alloc: Global, argument: &Value) -> Result<Value, ApplyError>
     ensures { Gives view result (meant.keys (view argument.now)) }
 {
-    let pairs = pairs_of(alloc, MapFunction::Keys.name(), argument)?;
-    let keys = copy_keys(alloc, pairs)?;
-    Ok(list_or_nil(alloc, keys)?)
+    match argument {
+        Value::Nil => Ok(Value::Nil),
+        Value::Map(pairs) => Ok(shared_list(pairs.keys())?),
+        other => {
+            let name = MapFunction::Keys.name();
+            Err(ApplyError::Fault(wrong_argument(alloc, name, other)?))
+        }
+    }
 }
 
 #[tactic(auto, using(crate::proofs::MapValues::seen), unfolding(crate::specs::MapMeaning::vals))]
 pub(crate) fn vals(alloc: Global, argument: &Value) -> Result<Value, ApplyError>
     ensures { Gives view result (meant.vals (view argument.now)) }
 {
-    let pairs = pairs_of(alloc, MapFunction::Vals.name(), argument)?;
-    let vals = copy_vals(alloc, pairs)?;
-    Ok(list_or_nil(alloc, vals)?)
+    match argument {
+        Value::Nil => Ok(Value::Nil),
+        Value::Map(pairs) => Ok(shared_list(pairs.values())?),
+        other => {
+            let name = MapFunction::Vals.name();
+            Err(ApplyError::Fault(wrong_argument(alloc, name, other)?))
+        }
+    }
 }
 
-fn copy_keys(alloc: Global, pairs: &[(Value, Value)]) -> Result<Vec<Value>, AllocError>
-    ensures { IfOk result (λ keys. map view keys.items ≡ map (λ p. p.0) (map pair_view pairs.now)) }
+// The row as a list, or nil where it has no items. It takes one step and no memory.
+fn shared_list(row: &Sequence) -> Result<Value, AllocError>
+    ensures { IfOk result (λ made. view made ≡ list_or_nil (listed row.now.items)) }
 {
-    let mut keys = Vec::with_capacity(alloc, pairs.len())?;
-    for (key, _value) in pairs {
-        keys.push(copy(key)?)?;
+    if row.is_empty() {
+        return Ok(Value::Nil);
     }
-    Ok(keys)
-}
-
-fn copy_vals(alloc: Global, pairs: &[(Value, Value)]) -> Result<Vec<Value>, AllocError>
-    ensures { IfOk result (λ vals. map view vals.items ≡ map (λ p. p.1) (map pair_view pairs.now)) }
-{
-    let mut vals = Vec::with_capacity(alloc, pairs.len())?;
-    for (_key, value) in pairs {
-        vals.push(copy(value)?)?;
-    }
-    Ok(vals)
+    Ok(Value::List(row.copy()?))
 }

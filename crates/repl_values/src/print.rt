@@ -3,7 +3,7 @@
 
 ghost use Rattle.std.specs.Prelude.{◌≡◌, ◌++◌, OnOk, OnErr, string_bytes, codes, decimal};
 ghost use Rattle.std.specs.Prelude.{encode_utf8};
-ghost use Rattle.value_data.specs.Inside.View.{view, pairs_view, owner_view};
+ghost use Rattle.value_data.specs.Inside.View.{view, owner_view};
 ghost use Rattle.repl_values.specs.Print.{print, display, spelled, texts, pair_texts, joined_by};
 ghost use Rattle.repl_values.specs.Print.{escaped, ref_text};
 ghost use Rattle.std.specs.Fmt.{signed_decimal};
@@ -11,7 +11,7 @@ ghost use Rattle.repl_values.specs.Inside.Style.{spelling_of};
 
 use itoa::Buffer;
 use std::alloc::{AllocError, Global};
-use value_data::{Owner, RefName, Sequence, Value};
+use value_data::{Owner, RefName, Sequence, Table, Value};
 
 /// How the strings inside a value are spelled.
 #[derive(Clone, Copy)]
@@ -68,7 +68,7 @@ fn spell(value: &Value, strings: Strings, out: &mut String) -> Result<(), AllocE
         }
         Value::Map(pairs) => {
             out.push_str("{")?;
-            spell_pairs(pairs.as_slice(), strings, out)?;
+            spell_pairs(pairs, strings, out)?;
             out.push_str("}")
         }
         Value::Ref(name) => push_ref(*name, out),
@@ -103,25 +103,23 @@ fn spell_items(items: &Sequence, strings: Strings, out: &mut String) -> Result<(
 }
 
 #[cycle(spell)]
-fn spell_pairs(
-    pairs: &[(Value, Value)],
-    strings: Strings,
-    out: &mut String,
-) -> Result<(), AllocError>
+fn spell_pairs(pairs: &Table, strings: Strings, out: &mut String) -> Result<(), AllocError>
     ensures { OnOk result (string_bytes out.new ≡ string_bytes out.old
-        ++ joined_by (codes ", ") (pair_texts (spelling_of strings) (pairs_view pairs.now))) }
+        ++ joined_by (codes ", ") (pair_texts (spelling_of strings) pairs.now.pairs)) }
 {
-    let Some(((key, value), rest)) = pairs.split_first() else {
+    let keys = pairs.keys();
+    let values = pairs.values();
+    if pairs.len() == 0 {
         return Ok(());
-    };
-    spell(key, strings, out)?;
+    }
+    spell(keys.at(0), strings, out)?;
     out.push_str(" ")?;
-    spell(value, strings, out)?;
-    for (key, value) in rest {
+    spell(values.at(0), strings, out)?;
+    for place in 1..pairs.len() {
         out.push_str(", ")?;
-        spell(key, strings, out)?;
+        spell(keys.at(place), strings, out)?;
         out.push_str(" ")?;
-        spell(value, strings, out)?;
+        spell(values.at(place), strings, out)?;
     }
     Ok(())
 }

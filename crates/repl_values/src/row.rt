@@ -12,14 +12,14 @@ ghost use Rattle.repl_values.specs.Inside.Rows.{row_view, pair_vectors};
 use crate::error::ApplyError;
 use crate::faults::wrong_argument;
 use std::alloc::{AllocError, Global};
-use value_data::{Sequence, Value, copy, pair_as_vector};
+use value_data::{Sequence, Table, Value, copy, pair_as_vector};
 
 /// Where the items stand: nowhere, in a list or a vector, or as a map's pairs.
 #[derive(Clone, Copy)]
 pub enum ItemRow<'a> {
     NoItems,
     Items(&'a Sequence),
-    Pairs(&'a [(Value, Value)]),
+    Pairs(&'a Table),
 }
 
 impl<'a> ItemRow<'a> {
@@ -32,7 +32,7 @@ impl<'a> ItemRow<'a> {
             Value::Nil => Ok(ItemRow::NoItems),
             Value::List(items) => Ok(ItemRow::Items(items)),
             Value::Vector(items) => Ok(ItemRow::Items(items)),
-            Value::Map(pairs) => Ok(ItemRow::Pairs(pairs.as_slice())),
+            Value::Map(pairs) => Ok(ItemRow::Pairs(pairs)),
             other => Err(ApplyError::Fault(wrong_argument(alloc, function, other)?)),
         }
     }
@@ -59,10 +59,7 @@ impl<'a> ItemRow<'a> {
                 Some(value) => copy(value),
                 None => Ok(Value::Nil),
             },
-            ItemRow::Pairs(pairs) => match pairs.get(place) {
-                Some((key, value)) => pair_as_vector(alloc, key, value),
-                None => Ok(Value::Nil),
-            },
+            ItemRow::Pairs(pairs) => pair_or_nil(alloc, pairs, place),
         }
     }
 
@@ -90,12 +87,25 @@ impl<'a> ItemRow<'a> {
     }
 }
 
-fn copy_pairs(alloc: Global, pairs: &[(Value, Value)]) -> Result<Vec<Value>, AllocError>
-    ensures { IfOk result (λ copies. map view copies.items ≡ pair_vectors pairs.now) }
+// The pair at this place as a vector, or nil.
+fn pair_or_nil(alloc: Global, pairs: &Table, place: usize) -> Result<Value, AllocError>
+    ensures { IfOk result
+        (λ pair. view pair ≡ item_or_nil place (pair_vectors pairs.now.pairs)) }
 {
+    if place >= pairs.len() {
+        return Ok(Value::Nil);
+    }
+    pair_as_vector(alloc, pairs.keys().at(place), pairs.values().at(place))
+}
+
+fn copy_pairs(alloc: Global, pairs: &Table) -> Result<Vec<Value>, AllocError>
+    ensures { IfOk result (λ copies. map view copies.items ≡ pair_vectors pairs.now.pairs) }
+{
+    let keys = pairs.keys();
+    let values = pairs.values();
     let mut copies = Vec::with_capacity(alloc, pairs.len())?;
-    for (key, value) in pairs {
-        copies.push(pair_as_vector(alloc, key, value)?)?;
+    for place in 0..pairs.len() {
+        copies.push(pair_as_vector(alloc, keys.at(place), values.at(place))?)?;
     }
     Ok(copies)
 }

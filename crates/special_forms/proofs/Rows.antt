@@ -1,9 +1,10 @@
 -- Forms by their places.
-use Rattle.std.proofs.Common.{◌≡◌, ℕ, zero, suc, ◌*◌, ◌<◌, ◌≤◌, List, [], ◌∷◌, Some, None, slice_get, get_or, length, take, drop, refl, sym, ap, ◌∙◌, arith}
+use Rattle.std.proofs.Common.{◌≡◌, ℕ, zero, suc, ◌*◌, ◌<◌, ◌≤◌, List, [], ◌∷◌, Some, None, slice_get, length, take, drop, refl, sym, ap, ◌∙◌, arith}
 use Rattle.std.specs.Prelude.{◌/◌, ◌%◌}
-use Rattle.value_data.specs.Datum.{Datum}
-use Rattle.value_data.specs.Inside.View.{view, pairs_view}
-use Rattle.value_data.specs.declared.value.Value.{Value}
+use Rattle.value_data.specs.Datum.{Datum, Pairs, no_pairs, pair}
+use Rattle.value_data.specs.Listed.{listed}
+use Rattle.value_data.specs.Same.{size}
+use Rattle.value_data.specs.Keyed.{keys_of, values_of}
 use Rattle.value_data.proofs.Views.{value_views}
 use Rattle.value_data.proofs.Lists.{listed-of, lists}
 use Rattle.special_forms.specs.Rows.{in_a_row}
@@ -52,44 +53,29 @@ row-whole (d ∷ ds) zero h = absurd (omega (arith, h))
 row-whole (d ∷ ds) (suc e) h = ap (λ (es : List Datum). d ∷ es) (row-whole ds e (omega (arith, h)))
 
 -- a map's keys and values are two for each pair
-pub length-in_a_row : (ps : List (Value × Value)) → length (in_a_row (pairs_view ps)) ≡ length ps * 2
-length-in_a_row [] = refl
-length-in_a_row (p ∷ ps) = omega (arith, length-in_a_row ps)
+pub length-in_a_row : (ps : Pairs) → length (in_a_row ps) ≡ size ps * 2
+length-in_a_row no_pairs = refl
+length-in_a_row (pair k v ps) = omega (arith, length-in_a_row ps)
 
-pub key-in_a_row : (ps : List (Value × Value)) (n : ℕ) (p : Value × Value) → n < length ps → p ≡ get_or ps n p
-    → slice_get (in_a_row (pairs_view ps)) (n * 2) ≡ Some (view p.0)
-key-in_a_row [] n p n< is = absurd (omega (arith, n<))
-key-in_a_row (q ∷ ps) zero p n< is = ap (λ (x : Value × Value). Some (view x.0)) (sym is)
-key-in_a_row (q ∷ ps) (suc n) p n< is =
+key-in_a_row : (ps : Pairs) (n : ℕ) → slice_get (in_a_row ps) (n * 2) ≡ slice_get (listed (keys_of ps)) n
+key-in_a_row no_pairs n = refl
+key-in_a_row (pair k v ps) zero = refl
+key-in_a_row (pair k v ps) (suc n) =
     let two : suc n * 2 ≡ suc (suc (n * 2)) = omega arith in
-    ap (slice_get (in_a_row (pairs_view (q ∷ ps)))) two ∙ key-in_a_row ps n p (omega (arith, n<)) is
+    ap (slice_get (in_a_row (pair k v ps))) two ∙ key-in_a_row ps n
 
-pub value-in_a_row : (ps : List (Value × Value)) (n : ℕ) (p : Value × Value) → n < length ps → p ≡ get_or ps n p
-    → slice_get (in_a_row (pairs_view ps)) (suc (n * 2)) ≡ Some (view p.1)
-value-in_a_row [] n p n< is = absurd (omega (arith, n<))
-value-in_a_row (q ∷ ps) zero p n< is = ap (λ (x : Value × Value). Some (view x.1)) (sym is)
-value-in_a_row (q ∷ ps) (suc n) p n< is =
+value-in_a_row : (ps : Pairs) (n : ℕ) → slice_get (in_a_row ps) (suc (n * 2)) ≡ slice_get (listed (values_of ps)) n
+value-in_a_row no_pairs n = refl
+value-in_a_row (pair k v ps) zero = refl
+value-in_a_row (pair k v ps) (suc n) =
     let two : suc (suc n * 2) ≡ suc (suc (suc (n * 2))) = omega arith in
-    ap (slice_get (in_a_row (pairs_view (q ∷ ps)))) two ∙ value-in_a_row ps n p (omega (arith, n<)) is
-
-pub past-in_a_row : (ps : List (Value × Value)) (n : ℕ) → length ps * 2 ≤ n → slice_get (in_a_row (pairs_view ps)) n ≡ None
-past-in_a_row [] n h = refl
-past-in_a_row (p ∷ ps) zero h = absurd (omega (arith, h))
-past-in_a_row (p ∷ ps) (suc zero) h = absurd (omega (arith, h))
-past-in_a_row (p ∷ ps) (suc (suc n)) h = past-in_a_row ps n (omega (arith, h))
+    ap (slice_get (in_a_row (pair k v ps))) two ∙ value-in_a_row ps n
 
 -- by what is left when halved
-pub key-at : (ps : List (Value × Value)) (n : ℕ) (p : Value × Value) → n / 2 < length ps → p ≡ get_or ps (n / 2) p → n % 2 ≡ 0
-    → slice_get (in_a_row (pairs_view ps)) n ≡ Some (view p.0)
-key-at ps n p n< is even =
-    let whole : n ≡ (n / 2) * 2 = omega (arith, even) in ap (slice_get (in_a_row (pairs_view ps))) whole ∙ key-in_a_row ps (n / 2) p n< is
+pub key-at : (ps : Pairs) (n : ℕ) → n % 2 ≡ 0 → slice_get (in_a_row ps) n ≡ slice_get (listed (keys_of ps)) (n / 2)
+key-at ps n even = let whole : n ≡ (n / 2) * 2 = omega (arith, even) in ap (slice_get (in_a_row ps)) whole ∙ key-in_a_row ps (n / 2)
 
-pub value-at : (ps : List (Value × Value)) (n : ℕ) (p : Value × Value) → n / 2 < length ps → p ≡ get_or ps (n / 2) p → ¬ (n % 2 ≡ 0)
-    → slice_get (in_a_row (pairs_view ps)) n ≡ Some (view p.1)
-value-at ps n p n< is odd =
-    let whole : n ≡ suc ((n / 2) * 2) = omega (arith, odd) in ap (slice_get (in_a_row (pairs_view ps))) whole ∙ value-in_a_row ps (n / 2) p n< is
+pub value-at : (ps : Pairs) (n : ℕ) → ¬ (n % 2 ≡ 0) → slice_get (in_a_row ps) n ≡ slice_get (listed (values_of ps)) (n / 2)
+value-at ps n odd = let whole : n ≡ suc ((n / 2) * 2) = omega (arith, odd) in ap (slice_get (in_a_row ps)) whole ∙ value-in_a_row ps (n / 2)
 
-pub past-at : (ps : List (Value × Value)) (n : ℕ) → length ps ≤ n / 2 → slice_get (in_a_row (pairs_view ps)) n ≡ None
-past-at ps n h = past-in_a_row ps n (omega (arith, h))
-
-pub ruleset row_steps = (value_views, lists, row-past, row-end, row-step, row-first, row-first_past, row-whole, length-in_a_row, key-at, value-at, past-at)
+pub ruleset row_steps = (value_views, lists, row-past, row-end, row-step, row-first, row-first_past, row-whole, length-in_a_row, key-at, value-at)

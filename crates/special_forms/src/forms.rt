@@ -54,7 +54,7 @@ impl Forms {
     pub fn of_pairs(pairs: Table) -> Forms
         ensures { forms_view result ≡ in_a_row pairs.pairs }
     {
-        let end = pairs.as_slice().len() * 2;
+        let end = pairs.len() * 2;
         Forms {
             source: FormsHolder::Pairs(pairs),
             start: 0,
@@ -88,8 +88,8 @@ impl Forms {
             .saturating_sub(self.start)
     }
 
-    /// The form at a place, counted from 0, if there is one. It takes no memory, and in a list or a
-    /// vector about the logarithm of the number of its items.
+    /// The form at a place, counted from 0, if there is one. It takes no memory, and about the
+    /// logarithm of the number of forms.
     pub fn get(&self, place: usize) -> Option<&Value>
         ensures { option_map (λ v. view v.now) result ≡ slice_get (forms_view self.now) place }
     {
@@ -209,7 +209,7 @@ fn places(source: &FormsHolder) -> usize
 {
     match source {
         FormsHolder::Items(items) => items.len(),
-        FormsHolder::Pairs(pairs) => pairs.as_slice().len() * 2,
+        FormsHolder::Pairs(pairs) => pairs.len() * 2,
     }
 }
 
@@ -227,11 +227,10 @@ fn at(source: &FormsHolder, place: usize) -> Option<&Value>
 fn part_at(pairs: &Table, place: usize) -> Option<&Value>
     ensures { option_map (λ v. view v.now) result ≡ slice_get (in_a_row pairs.now.pairs) place }
 {
-    let (key, value) = pairs.as_slice().get(place / 2)?;
     if place % 2 == 0 {
-        Some(key)
+        pairs.keys().get(place / 2)
     } else {
-        Some(value)
+        pairs.values().get(place / 2)
     }
 }
 

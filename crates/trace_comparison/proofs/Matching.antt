@@ -2,12 +2,9 @@
 use Rattle.std.proofs.Common.{◌≡◌, ◌≢◌, ℕ, zero, suc, ◌+◌, ◌<◌, List, [], ◌∷◌, Some, length, get_or, take, slice_get, map, option_map, refl, sym, ap, ◌∙◌, add-one, arith}
 use Rattle.std.proofs.lemmas.List.{length-map, get_or_default}
 use Rattle.std.proofs.lemmas.Option.{slice_get-map, slice_get_read}
-use Rattle.value_data.specs.Listed.{pairs_listed}
-use Rattle.value_data.proofs.Lists.{pairs_listed-of}
-use Rattle.value_data.specs.Inside.View.{owner_view, pair_view, pairs_view}
+use Rattle.value_data.specs.Inside.View.{owner_view}
 use Rattle.value_data.specs.declared.value.Owner.{Owner}
 use Rattle.value_data.specs.declared.value.RefName.{RefName}
-use Rattle.value_data.specs.declared.value.Value.{Value}
 use Rattle.repl_asks.specs.Transactions.{RefNameData}
 use Rattle.repl_asks.specs.Inside.View.{name_view}
 
@@ -69,10 +66,6 @@ module _ {A B : Type 0} (f : A → B) where
   differ-at_copied xs ys i d k l =
       differ-at f f xs ys i (get_or xs i d) (get_or ys i d) k l (get_or_default xs i d (get_or xs i d) k) (get_or_default ys i d (get_or ys i d) l)
 
--- pairs as the list that they were made of
-pub pairs-listed : (xs ys : List (Value × Value)) → pairs_view xs ≡ pairs_view ys → map pair_view xs ≡ map pair_view ys
-pairs-listed xs ys e = sym (pairs_listed-of (map pair_view xs)) ∙ ap pairs_listed e ∙ pairs_listed-of (map pair_view ys)
-
 -- a ref's name says which it is
 owner-same : (a b : Owner) → owner_view a ≡ owner_view b → a ≡ b
 owner-same Owner.Shared Owner.Shared e = refl
@@ -86,6 +79,6 @@ name-same a b e =
     let number : a.number ≡ b.number = ap (λ (n : RefNameData). n.number) e in
     rw (owner, number) refl
 
-pub ruleset place_steps = (equal-next, take-next, differ-at, goes-on, unequal-lengths, pairs-listed)
+pub ruleset place_steps = (equal-next, take-next, differ-at, goes-on, unequal-lengths)
 
 pub ruleset ref_steps = (name-same, equal-next_copied, differ-at_copied, unequal-lengths)

@@ -1,11 +1,13 @@
--- Items compared chunk by chunk.
+-- Items compared chunk by chunk, and pairs by their two rows.
 use Rattle.std.proofs.Common.{◌≡◌, ◌≢◌, ℕ, zero, suc, ◌+◌, ◌≤◌, List, [], ◌∷◌, ◌++◌, length, take, drop, refl, sym, ap, ◌∙◌, arith}
 use Rattle.std.proofs.lemmas.List.{take_all}
-use Rattle.value_data.specs.Datum.{Datum, Items}
+use Rattle.value_data.specs.Datum.{Datum, Items, Pairs, no_pairs, pair}
 use Rattle.value_data.specs.Listed.{listed, items_of}
 use Rattle.value_data.specs.Inside.View.{view, views}
 use Rattle.value_data.specs.declared.value.Value.{Value}
+use Rattle.value_data.specs.Keyed.{keys_of, values_of}
 use Rattle.value_data.proofs.Nodes.{node_steps}
+use Rattle.value_data.proofs.Size.{items_nodes, pairs_nodes}
 use Rattle.repl_values.proofs.Places.{items_of-listed}
 use Rattle.trace_comparison.proofs.Matching.{place_steps}
 
@@ -74,5 +76,26 @@ items-same xs ys i k l same =
     let all : listed xs ≡ listed ys = sym (take_all i (listed xs) k) ∙ same ∙ take_all i (listed ys) l in
     sym (items_of-listed xs) ∙ ap items_of all ∙ items_of-listed ys
 
+-- ---- pairs, of which a row of keys and a row of values are compared
+
+pub pairs-same : (ps qs : Pairs) → keys_of ps ≡ keys_of qs → values_of ps ≡ values_of qs → ps ≡ qs
+pairs-same no_pairs no_pairs keys values = refl
+pairs-same no_pairs (pair l w qs) keys values = absurd (cc)
+pairs-same (pair k v ps) no_pairs keys values = absurd (cc)
+pairs-same (pair k v ps) (pair l w qs) keys values =
+    let key : k ≡ l = cc in
+    let value : v ≡ w = cc in
+    let others : keys_of ps ≡ keys_of qs = cc in
+    let their : values_of ps ≡ values_of qs = cc in
+    rw (key, value, pairs-same ps qs others their) refl
+
+pub keys-nodes : (ps : Pairs) → items_nodes (keys_of ps) ≤ pairs_nodes ps
+keys-nodes no_pairs = omega arith
+keys-nodes (pair k v ps) = omega (arith, keys-nodes ps)
+
+pub values-nodes : (ps : Pairs) → items_nodes (values_of ps) ≤ pairs_nodes ps
+values-nodes no_pairs = omega arith
+values-nodes (pair k v ps) = omega (arith, values-nodes ps)
+
 -- what the comparison of values uses
-pub ruleset value_steps = (place_steps, node_steps, unequal-counts, items-same)
+pub ruleset value_steps = (place_steps, node_steps, unequal-counts, items-same, pairs-same, keys-nodes, values-nodes)

@@ -3,7 +3,7 @@
 
 ghost use Rattle.std.specs.Prelude.{◌≡◌, ◌↔◌, IsTrue};
 ghost use Rattle.std.specs.Arc.{arc_str_bytes};
-ghost use Rattle.value_data.specs.Inside.View.{view, views, pair_view, pairs_view};
+ghost use Rattle.value_data.specs.Inside.View.{view, views};
 
 use repl_values::{RefName, Sequence, Table, Value};
 use std::sync::ArcStr;
@@ -115,28 +115,6 @@ fn same_table(left: &Table, right: &Table) -> bool
     left.hash() == right.hash()
         && left.weight() == right.weight()
         && left.nesting() == right.nesting()
-        && same_pairs(left.as_slice(), right.as_slice())
-}
-
-// Whether the pairs are the same, in order.
-#[cycle(same_value)]
-fn same_pairs(left: &[(Value, Value)], right: &[(Value, Value)]) -> bool
-    ensures { IsTrue result ↔ (pairs_view left.now ≡ pairs_view right.now) }
-{
-    if left.len() != right.len() {
-        return false;
-    }
-    for (place, pair) in left.iter().enumerate() {
-        if !same_pair(pair, &right[place]) {
-            return false;
-        }
-    }
-    true
-}
-
-#[cycle(same_value)]
-fn same_pair(left: &(Value, Value), right: &(Value, Value)) -> bool
-    ensures { IsTrue result ↔ (pair_view left.now ≡ pair_view right.now) }
-{
-    same_value(&left.0, &right.0) && same_value(&left.1, &right.1)
+        && same_sequence(left.keys(), right.keys())
+        && same_sequence(left.values(), right.values())
 }

@@ -1,14 +1,14 @@
 -- A pair put into a map's pairs.
-use Rattle.std.proofs.Common.{◌≡◌, ℕ, zero, suc, ◌<◌, Bool, true, false, ◌||◌, List, [], ◌∷◌, ◌++◌, length, get_or, set, Option, Some, None, option_map, refl, sym, ap, ◌∙◌, arith}
+use Rattle.std.proofs.Common.{◌≡◌, ℕ, zero, suc, ◌<◌, Bool, true, false, ◌||◌, List, [], ◌∷◌, ◌++◌, length, get_or, set, Option, Some, None, option_map, map as each, refl, sym, ap, ◌∙◌, arith}
 use Rattle.std.specs.Prelude.{if◌then◌else◌}
 use Rattle.value_data.specs.Datum.{Datum, Pairs, no_pairs, pair}
-use Rattle.value_data.specs.Inside.View.{view, pairs_view}
-use Rattle.value_data.specs.declared.value.Value.{Value}
+use Rattle.value_data.specs.Listed.{pairs_of}
+use Rattle.value_data.specs.Inside.Seen.{key_in}
 use Rattle.value_data.specs.Same.{same}
 use Rattle.value_data.specs.Keyed.{has_key, behind_all}
 use Rattle.value_data.specs.Inside.Placed.{first_place, are_distinct, with_value}
 use Rattle.value_data.specs.Put.{put_pair}
-use Rattle.value_data.proofs.Tables.{distinct-behind, has_key-first}
+use Rattle.value_data.proofs.Tables.{distinct-behind, has_key-first, pairs-behind}
 
 suc-Some : (o : Option ℕ) (n : ℕ) → option_map (λ (m : ℕ). suc m) o ≡ Some (suc n) → o ≡ Some n
 suc-Some None n h = cc
@@ -55,10 +55,10 @@ within-step false o s zero h e = absurd (suc-zero o e)
 within-step false o s (suc n) h e = omega (arith, h n (suc-Some o n e))
 
 -- what is found stands among the pairs
-pub first_place-within : (xs : List (Value × Value)) (d : Datum) (n : ℕ) → first_place (pairs_view xs) d ≡ Some n → n < length xs
+pub first_place-within : (xs : List (Datum × Datum)) (d : Datum) (n : ℕ) → first_place (pairs_of xs) d ≡ Some n → n < length xs
 first_place-within [] d n h = cc
 first_place-within (x ∷ xs) d n h =
-    within-step (same (view x.0) d) (first_place (pairs_view xs) d) (length xs) n (λ m e. first_place-within xs d m e) h
+    within-step (same x.0 d) (first_place (pairs_of xs) d) (length xs) n (λ m e. first_place-within xs d m e) h
 
 has_key-with_value : (m : ℕ) (v d : Datum) (ps : Pairs) → has_key (with_value m v ps) d ≡ has_key ps d
 has_key-with_value m v d no_pairs = refl
@@ -70,23 +70,26 @@ distinct-with_value m v no_pairs = refl
 distinct-with_value zero v (pair k w ps) = refl
 distinct-with_value (suc m) v (pair k w ps) = rw (has_key-with_value m v k ps, distinct-with_value m v ps) refl
 
-pub set-value : (xs : List (Value × Value)) (n : ℕ) (p : Value × Value) (w : Value) → n < length xs → p ≡ get_or xs n p
-    → pairs_view (set xs n (p.0, w)) ≡ with_value n (view w) (pairs_view xs)
-set-value [] n p w h is = absurd (omega (arith, h))
-set-value (x ∷ xs) zero p w h is = ap (λ (q : Value × Value). pair (view q.0) (view w) (pairs_view xs)) is
-set-value (x ∷ xs) (suc n) p w h is = ap (pair (view x.0) (view x.1)) (set-value xs n p w (omega (arith, h)) is)
+pub set-value : (qs : List (Datum × Datum)) (n : ℕ) (k w d : Datum) → n < length qs → k ≡ get_or (each key_in qs) n d
+    → pairs_of (set qs n (k, w)) ≡ with_value n w (pairs_of qs)
+set-value [] n k w d h is = absurd (omega (arith, h))
+set-value (q ∷ qs) zero k w d h is = ap (λ (e : Datum). pair e w (pairs_of qs)) is
+set-value (q ∷ qs) (suc n) k w d h is = ap (pair q.0 q.1) (set-value qs n k w d (omega (arith, h)) is)
 
-push-value : (xs : List (Value × Value)) (k w : Value) → pairs_view (xs ++ (k, w) ∷ []) ≡ behind_all (pairs_view xs) (view k) (view w)
-push-value [] k w = refl
-push-value (x ∷ xs) k w = ap (pair (view x.0) (view x.1)) (push-value xs k w)
+pub pushed-is : (qs rs : List (Datum × Datum)) (k w key value : Datum) → k ≡ key → w ≡ value → rs ≡ qs ++ (k, w) ∷ []
+    → pairs_of rs ≡ behind_all (pairs_of qs) key value
+pushed-is qs rs k w key value ek ew is =
+    ap pairs_of is
+    ∙ pairs-behind qs k w
+    ∙ ap (λ d. behind_all (pairs_of qs) d w) ek
+    ∙ ap (behind_all (pairs_of qs) key) ew
 
-pub pushed-is : (xs ys : List (Value × Value)) (k w : Value) (key value : Datum) → view k ≡ key → view w ≡ value → ys ≡ xs ++ (k, w) ∷ []
-    → pairs_view ys ≡ behind_all (pairs_view xs) key value
-pushed-is xs ys k w key value ek ew is =
-    ap (λ (zs : List (Value × Value)). pairs_view zs) is
-    ∙ push-value xs k w
-    ∙ ap (λ d. behind_all (pairs_view xs) d (view w)) ek
-    ∙ ap (behind_all (pairs_view xs) key) ew
+pub replaced-is : (qs rs : List (Datum × Datum)) (n : ℕ) (d w value : Datum) → w ≡ value → n < length qs → rs ≡ set qs n (get_or (each key_in qs) n d, w)
+    → pairs_of rs ≡ with_value n value (pairs_of qs)
+replaced-is qs rs n d w value ew h is =
+    ap pairs_of is
+    ∙ set-value qs n (get_or (each key_in qs) n d) w d h refl
+    ∙ ap (λ (e : Datum). with_value n e (pairs_of qs)) ew
 
 pub found-put : (ps qs : Pairs) (key value : Datum) (n : ℕ) → first_place ps key ≡ Some n → qs ≡ with_value n value ps → qs ≡ put_pair key value ps
 found-put ps qs key value n e is = is ∙ sym (put-found ps key value n e)
@@ -101,4 +104,4 @@ pub new-distinct : (ps qs : Pairs) (key value : Datum) → first_place ps key �
 new-distinct ps qs key value e is d =
     ap are_distinct is ∙ distinct-behind ps key value d (has_key-first ps key e)
 
-pub ruleset edit_steps = (first_place-within, set-value)
+pub ruleset edit_steps = (first_place-within)

@@ -1,5 +1,5 @@
 -- A map's hash, and that equal values have equal hashes.
-use Rattle.std.proofs.Common.{◌≡◌, ℕ, zero, suc, ◌≤◌, Bool, true, false, ◌&&◌, ◌||◌, max, List, [], ◌∷◌, length, drop, refl, ap, ◌∙◌, arith}
+use Rattle.std.proofs.Common.{◌≡◌, ℕ, ◌≤◌, Bool, true, false, ◌&&◌, ◌||◌, max, List, refl, ap, ◌∙◌, arith}
 use Rattle.std.proofs.Math.Nat.{max-le, le_antisymm}
 use Rattle.std.specs.Cmp.{booleans_Decides}
 use Rattle.std.specs.Str.{bytes_eq}
@@ -7,23 +7,8 @@ use Rattle.std.proofs.lemmas.Bool.{eqb-true}
 use Rattle.std.proofs.lemmas.Bool.Decides.{Decides-int_eq}
 use Rattle.std.proofs.lemmas.Slice.Eq.{bytes_eq-Decides}
 use Rattle.value_data.specs.Datum.{OwnerData, shared, tenant, Datum, nil, boolean, integer, string, keyword, symbol, list, vector, map, ref, atom, agent, var, fault, Items, no_items, item, Pairs, no_pairs, pair}
-use Rattle.value_data.specs.Inside.View.{pairs_view}
-use Rattle.value_data.specs.declared.value.Value.{Value}
 use Rattle.value_data.specs.Same.{same, same_owner, same_items, size, within, each_pair, is_among, has_pair}
 use Rattle.value_data.specs.Inside.Hash.{hash, items_hash, peak, mixed, salted, text_hash, owner_hash, pair_hash}
-
--- after the last pair the greatest so far is the greatest of all
-pub peak-done : (salt top : ℕ) (xs : List (Value × Value)) (i : ℕ) → length xs ≤ i
-    → max top (peak salt (pairs_view (drop i xs))) ≡ peak salt (pairs_view xs) → top ≡ peak salt (pairs_view xs)
-peak-done salt top xs i past e =
-    let none : drop i xs ≡ [] = drop-past xs i past in
-    omega (arith, rw none at e)
-  where
-    drop-past : (ys : List (Value × Value)) (j : ℕ) → length ys ≤ j → drop j ys ≡ []
-    drop-past [] zero p = refl
-    drop-past [] (suc j) p = refl
-    drop-past (y ∷ ys) zero p = absurd (omega (arith, p))
-    drop-past (y ∷ ys) (suc j) p = drop-past ys j (omega (arith, p))
 
 -- the parts of a test that is true
 and-left : (a b : Bool) → (a && b) ≡ true → a ≡ true

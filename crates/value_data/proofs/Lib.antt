@@ -4,6 +4,7 @@ pub mod Sameness
 pub mod Size
 pub mod Nodes
 pub mod Tables
+pub mod Entered
 pub mod Editing
 pub mod Transitive
 pub mod Views

@@ -7,13 +7,14 @@ use Rattle.std.specs.declared.cmp.Ordering.{Ordering}
 use Rattle.std.specs.declared.cmp.Ordering.TheVariants.{Less, Equal, Greater}
 use Rattle.std.specs.Ordering.{nat_cmp, bool_cmp, is_ne, ordering_then}
 use Rattle.std.specs.Cmp.{nat_cmp_is}
-use Rattle.value_data.specs.Datum.{Pairs, no_pairs, pair}
-use Rattle.value_data.specs.Inside.View.{view, items_view, pairs_view}
+use Rattle.value_data.specs.Datum.{Datum, Pairs, no_pairs, pair}
+use Rattle.value_data.specs.Inside.View.{view, items_view}
+use Rattle.value_data.specs.Listed.{pairs_of}
 use Rattle.value_data.specs.declared.value.Value.{Value}
 use Rattle.value_data.specs.declared.value.PairsNode.{PairsNode}
-use Rattle.value_data.specs.Inside.Held.{TableData}
-use Rattle.value_data.specs.Inside.Nodes.{KeepsPairs, seen_pairs}
-use Rattle.value_data.proofs.Sameness.{size-pairs_view}
+use Rattle.value_data.specs.Inside.Held.{EntriesData, TableData}
+use Rattle.value_data.specs.Inside.Nodes.{KeepsPairs, seen_pairs, entry_pairs}
+use Rattle.value_data.proofs.Sameness.{size-pairs_of}
 use Rattle.value_data.specs.Same.{size}
 use Rattle.value_data.specs.Inside.Order.{SortKey, number, both, order, chain, sorted, rows, sort_key, items_sort_key}
 use Rattle.value_data.specs.Inside.Index.{key_at, row_at, rows_at, ArePlaces, Indexes}
@@ -198,38 +199,38 @@ items-order xs ys = rw (items-chain xs, items-chain ys) refl
 pub two-open-at : (o p q r s : Ordering) → is_ne o ≡ false → o ≡ ordering_then p q → s ≡ r → s ≡ ordering_then p (ordering_then q r)
 two-open-at o p q r s h e f = f ∙ sym (two-open p q r (sym h ∙ ap is_ne e))
 
-pub node-rows : (n : PairsNode) (t : TableData) (xs : List (Value × Value)) (ns : List ℕ) → KeepsPairs n → seen_pairs n ≡ t → xs ≡ n.pairs.items → ns ≡ n.index
-    → rows_at (pairs_view xs) ns ≡ chain (sorted (rows t.pairs))
-node-rows n t xs ns keeps seen e f =
-    ap (λ (ys : List (Value × Value)). rows_at (pairs_view ys) ns) e
-    ∙ ap (λ (ms : List ℕ). rows_at (pairs_view n.pairs.items) ms) f
-    ∙ sym (index-rows n.index (pairs_view n.pairs.items) keeps.indexed)
+pub node-rows : (n : PairsNode) (t : TableData) (e : EntriesData) (ns : List ℕ) → KeepsPairs n → seen_pairs n ≡ t → e ≡ n.entries → ns ≡ n.index
+    → rows_at (entry_pairs e) ns ≡ chain (sorted (rows t.pairs))
+node-rows n t e ns keeps seen is f =
+    ap (λ (d : EntriesData). rows_at (entry_pairs d) ns) is
+    ∙ ap (λ (ms : List ℕ). rows_at (entry_pairs n.entries) ms) f
+    ∙ sym (index-rows n.index (entry_pairs n.entries) keeps.indexed)
     ∙ ap (λ (d : TableData). chain (sorted (rows d.pairs))) seen
 
-pub node-within : (n : PairsNode) (xs : List (Value × Value)) (ns : List ℕ) → KeepsPairs n → xs ≡ n.pairs.items → ns ≡ n.index → ArePlaces ns (length xs)
-node-within n xs ns keeps e f =
-    rw (e, f) (record {
-      counted = omega (arith, keeps.indexed.counted, size-pairs_view n.pairs.items);
-      within = λ k d l. omega (arith, keeps.indexed.within k d l, size-pairs_view n.pairs.items);
+pub node-within : (n : PairsNode) (e : EntriesData) (ns : List ℕ) → KeepsPairs n → e ≡ n.entries → ns ≡ n.index → ArePlaces ns (length e.listed)
+node-within n e ns keeps is f =
+    rw (is, f) (record {
+      counted = omega (arith, keeps.indexed.counted, size-pairs_of n.entries.listed);
+      within = λ k d l. omega (arith, keeps.indexed.within k d l, size-pairs_of n.entries.listed);
     })
 
 -- a row is made of its pair
-pub row-is : (xs : List (Value × Value)) (n : ℕ) (p : Value × Value) → p ≡ get_or xs n p → n < length xs → both (sort_key (view p.0)) (sort_key (view p.1)) ≡ row_at (pairs_view xs) n
+pub row-is : (xs : List (Datum × Datum)) (n : ℕ) (p : Datum × Datum) → p ≡ get_or xs n p → n < length xs → both (sort_key p.0) (sort_key p.1) ≡ row_at (pairs_of xs) n
 row-is [] n p e h = absurd (omega (arith, h))
-row-is (x ∷ xs) zero p e h = ap (λ (q : Value × Value). both (sort_key (view q.0)) (sort_key (view q.1))) e
+row-is (x ∷ xs) zero p e h = ap (λ (q : Datum × Datum). both (sort_key q.0) (sort_key q.1)) e
 row-is (x ∷ xs) (suc n) p e h = row-is xs n p e (omega (arith, h))
 
-pub rows-step : (ls rs : List (Value × Value)) (ms ns : List ℕ) (i x y : ℕ) (p q : Value × Value) → i < length ms → i < length ns → x ≡ get_or ms i 0 → y ≡ get_or ns i 0
+pub rows-step : (ls rs : List (Datum × Datum)) (ms ns : List ℕ) (i x y : ℕ) (p q : Datum × Datum) → i < length ms → i < length ns → x ≡ get_or ms i 0 → y ≡ get_or ns i 0
     → p ≡ get_or ls x p → All (λ n. n < length ls) ms → q ≡ get_or rs y q → All (λ n. n < length rs) ns
-    → order (rows_at (pairs_view ls) (drop i ms)) (rows_at (pairs_view rs) (drop i ns))
-    ≡ ordering_then (order (both (sort_key (view p.0)) (sort_key (view p.1))) (both (sort_key (view q.0)) (sort_key (view q.1))))
-    (order (rows_at (pairs_view ls) (drop (suc i) ms)) (rows_at (pairs_view rs) (drop (suc i) ns)))
+    → order (rows_at (pairs_of ls) (drop i ms)) (rows_at (pairs_of rs) (drop i ns))
+    ≡ ordering_then (order (both (sort_key p.0) (sort_key p.1)) (both (sort_key q.0) (sort_key q.1)))
+    (order (rows_at (pairs_of ls) (drop (suc i) ms)) (rows_at (pairs_of rs) (drop (suc i) ns)))
 rows-step ls rs ms ns i x y p q h k at there ep lp eq lq =
-    let rest = order (rows_at (pairs_view ls) (drop (suc i) ms)) (rows_at (pairs_view rs) (drop (suc i) ns)) in
-    chain-step (row_at (pairs_view ls)) (row_at (pairs_view rs)) ms ns i 0 0 h k
-    ∙ ap (λ (n : ℕ). ordering_then (order (row_at (pairs_view ls) n) (row_at (pairs_view rs) (get_or ns i 0))) rest) (sym at)
-    ∙ ap (λ (n : ℕ). ordering_then (order (row_at (pairs_view ls) x) (row_at (pairs_view rs) n)) rest) (sym there)
-    ∙ ap (λ (w : SortKey). ordering_then (order w (row_at (pairs_view rs) y)) rest) (sym (row-is ls x p ep (omega (arith, at, lp i 0 h))))
-    ∙ ap (λ (w : SortKey). ordering_then (order (both (sort_key (view p.0)) (sort_key (view p.1))) w) rest) (sym (row-is rs y q eq (omega (arith, there, lq i 0 k))))
+    let rest = order (rows_at (pairs_of ls) (drop (suc i) ms)) (rows_at (pairs_of rs) (drop (suc i) ns)) in
+    chain-step (row_at (pairs_of ls)) (row_at (pairs_of rs)) ms ns i 0 0 h k
+    ∙ ap (λ (n : ℕ). ordering_then (order (row_at (pairs_of ls) n) (row_at (pairs_of rs) (get_or ns i 0))) rest) (sym at)
+    ∙ ap (λ (n : ℕ). ordering_then (order (row_at (pairs_of ls) x) (row_at (pairs_of rs) n)) rest) (sym there)
+    ∙ ap (λ (w : SortKey). ordering_then (order w (row_at (pairs_of rs) y)) rest) (sym (row-is ls x p ep (omega (arith, at, lp i 0 h))))
+    ∙ ap (λ (w : SortKey). ordering_then (order (both (sort_key p.0) (sort_key p.1)) w) rest) (sym (row-is rs y q eq (omega (arith, there, lq i 0 k))))
 
 pub ruleset order_steps = (bool-order, then-done)

@@ -1,19 +1,18 @@
 -- Keys that are taken out, and keys that are repeated.
-use Rattle.std.proofs.Common.{◌≡◌, ℕ, zero, suc, ◌+◌, ◌<◌, ◌≤◌, Bool, true, false, not, ◌&&◌, ◌||◌, List, [], ◌∷◌, ◌++◌, length, get_or, set, take, map, filter, replicate, IfSome, ◌-◌, Option, Some, None, option_map, add-one, refl, sym, ap, ◌∙◌, arith}
+use Rattle.std.proofs.Common.{◌≡◌, ℕ, zero, suc, ◌+◌, ◌<◌, ◌≤◌, Bool, true, false, not, ◌&&◌, ◌||◌, List, [], ◌∷◌, length, get_or, take, drop, map, filter, Option, Some, None, option_map, add-one, refl, sym, ap, ◌∙◌, arith}
 use Rattle.std.specs.Prelude.{if◌then◌else◌}
 use Rattle.value_data.specs.Datum.{Datum, Items, no_items, item, Pairs, no_pairs, pair}
-use Rattle.value_data.specs.Inside.View.{view, pair_view, items_view, pairs_view}
+use Rattle.value_data.specs.Inside.View.{view, items_view, pairs_view}
 use Rattle.value_data.specs.declared.value.Value.{Value}
 use Rattle.value_data.specs.Same.{same}
 use Rattle.value_data.specs.Repeats.{is_one_of, repeat_behind, first_repeat}
 use Rattle.value_data.specs.Keyed.{has_key, keys_of}
-use Rattle.value_data.specs.Inside.Placed.{first_place, are_distinct}
-use Rattle.value_data.specs.Listed.{items_of, pairs_of}
-use Rattle.value_data.specs.Inside.Marked.{unmarked, with_mark}
+use Rattle.value_data.specs.Inside.Placed.{first_place, are_distinct, without_at}
+use Rattle.value_data.specs.Listed.{items_of, pairs_listed, pairs_of}
+use Rattle.std.specs.List.{remove}
 use Rattle.value_data.specs.Put.{without_keys}
 use Rattle.value_data.proofs.Equivalence.{same-sym, and-left, and-right, and-both}
 use Rattle.value_data.proofs.Lists.{pairs_listed-of}
-use Rattle.value_data.proofs.Editing.{first_place-within}
 use Rattle.value_data.proofs.Tables.{has_key-along, has_key-first, or-false, differ, not-true, true-not, false-both}
 
 -- ---- the first repeated key
@@ -24,21 +23,6 @@ keys-view ps vs h = at ps ∙ ap items_of h
     at : (qs : List (Value × Value)) → keys_of (pairs_view qs) ≡ items_of (map (λ (p : Value × Value). view p.0) qs)
     at [] = refl
     at (q ∷ qs) = ap (item (view q.0)) (at qs)
-
--- in pairs whose keys are distinct no key stands before
-pub none-before : (xs : List (Value × Value)) (n : ℕ) (p : Value × Value) → p ≡ get_or xs n p → n < length xs → are_distinct (pairs_view xs) ≡ true
-    → has_key (pairs_view (take n xs)) (view p.0) ≡ false
-none-before [] n p is h d = absurd (omega (arith, h))
-none-before (x ∷ xs) zero p is h d = refl
-none-before (x ∷ xs) (suc n) p is h d =
-    false-both (same (view x.0) (view p.0)) (has_key (pairs_view (take n xs)) (view p.0))
-    (differ (view p.0) (view x.0) (apart xs n is (omega (arith, h)) (not-true _ (and-left (not (has_key (pairs_view xs) (view x.0))) (are_distinct (pairs_view xs)) d))) (same (view x.0) (view p.0)) refl)
-    (none-before xs n p is (omega (arith, h)) (and-right (not (has_key (pairs_view xs) (view x.0))) (are_distinct (pairs_view xs)) d))
-  where
-    apart : (ys : List (Value × Value)) (m : ℕ) → p ≡ get_or ys m p → m < length ys → has_key (pairs_view ys) (view x.0) ≡ false → same (view p.0) (view x.0) ≡ false
-    apart [] m e l f = absurd (omega (arith, l))
-    apart (y ∷ ys) zero e l f = ap (λ (q : Value × Value). same (view q.0) (view x.0)) e ∙ (or-false (same (view y.0) (view x.0)) (has_key (pairs_view ys) (view x.0)) f).0
-    apart (y ∷ ys) (suc m) e l f = apart ys m e (omega (arith, l)) (or-false (same (view y.0) (view x.0)) (has_key (pairs_view ys) (view x.0)) f).1
 
 -- none of the keys is one of those before
 abbrev fresh : Items → Pairs → Bool
@@ -76,27 +60,27 @@ behind t o n e f = rw (e, f) refl
 found : (t : Bool) (o : Option ℕ) → t ≡ true → (if t then Some 0 else option_map (λ (m : ℕ). suc m) o) ≡ Some 0
 found t o e = rw e refl
 
-repeats-at : (before : Items) (xs : List (Value × Value)) (n : ℕ) (p : Value × Value) → p ≡ get_or xs n p → n < length xs
-    → fresh before (pairs_view (take n xs)) ≡ true → are_distinct (pairs_view (take n xs)) ≡ true
-    → (is_one_of before (view p.0) || has_key (pairs_view (take n xs)) (view p.0)) ≡ true
-    → repeat_behind before (keys_of (pairs_view xs)) ≡ Some n
+repeats-at : (before : Items) (xs : List (Datum × Datum)) (n : ℕ) (p : Datum × Datum) → p ≡ get_or xs n p → n < length xs
+    → fresh before (pairs_of (take n xs)) ≡ true → are_distinct (pairs_of (take n xs)) ≡ true
+    → (is_one_of before p.0 || has_key (pairs_of (take n xs)) p.0) ≡ true
+    → repeat_behind before (keys_of (pairs_of xs)) ≡ Some n
 repeats-at before [] n p is h f d e = absurd (omega (arith, h))
 repeats-at before (x ∷ xs) zero p is h f d e =
-    found (is_one_of before (view x.0)) _ (ap (λ (q : Value × Value). is_one_of before (view q.0)) (sym is) ∙ or-none _ e)
+    found (is_one_of before x.0) _ (ap (λ (q : Datum × Datum). is_one_of before q.0) (sym is) ∙ or-none _ e)
 repeats-at before (x ∷ xs) (suc n) p is h f d e =
-    let ps = pairs_view (take n xs) in
-    let key = view x.0 in
+    let ps = pairs_of (take n xs) in
+    let key = x.0 in
     let apart : has_key ps key ≡ false = not-true _ (and-left (not (has_key ps key)) (are_distinct ps) d) in
     behind (is_one_of before key) _ n (not-true _ (and-left (not (is_one_of before key)) (fresh before ps) f))
     (repeats-at (item key before) xs n p is (omega (arith, h))
     (fresh-more before ps key (and-right (not (is_one_of before key)) (fresh before ps) f) apart)
     (and-right (not (has_key ps key)) (are_distinct ps) d)
-    (sym (or-turn (is_one_of before (view p.0)) (same key (view p.0)) (has_key ps (view p.0))) ∙ e))
+    (sym (or-turn (is_one_of before p.0) (same key p.0) (has_key ps p.0)) ∙ e))
 
-pub first-repeat : (xs : List (Value × Value)) (n : ℕ) (p : Value × Value) → p ≡ get_or xs n p → n < length xs
-    → are_distinct (pairs_view (take n xs)) ≡ true → has_key (pairs_view (take n xs)) (view p.0) ≡ true
-    → first_repeat (keys_of (pairs_view xs)) ≡ Some n
-first-repeat xs n p is h d e = repeats-at no_items xs n p is h (fresh-none (pairs_view (take n xs))) d e
+pub first-repeat : (xs : List (Datum × Datum)) (n : ℕ) (p : Datum × Datum) → p ≡ get_or xs n p → n < length xs
+    → are_distinct (pairs_of (take n xs)) ≡ true → has_key (pairs_of (take n xs)) p.0 ≡ true
+    → first_repeat (keys_of (pairs_of xs)) ≡ Some n
+first-repeat xs n p is h d e = repeats-at no_items xs n p is h (fresh-none (pairs_of (take n xs))) d e
 
 none-behind : (t : Bool) (o : Option ℕ) → t ≡ false → o ≡ None → (if t then Some 0 else option_map (λ (m : ℕ). suc m) o) ≡ None
 none-behind t o e f = rw (e, f) refl
@@ -115,127 +99,92 @@ take-past [] (suc n) h = refl
 take-past (x ∷ xs) zero h = absurd (omega (arith, h))
 take-past (x ∷ xs) (suc n) h = ap (λ ys. x ∷ ys) (take-past xs n (omega (arith, h)))
 
-pub no-repeat : (xs : List (Value × Value)) (n : ℕ) → length xs ≤ n → are_distinct (pairs_view (take n xs)) ≡ true → first_repeat (keys_of (pairs_view xs)) ≡ None
+pub no-repeat : (xs : List (Datum × Datum)) (n : ℕ) → length xs ≤ n → are_distinct (pairs_of (take n xs)) ≡ true → first_repeat (keys_of (pairs_of xs)) ≡ None
 no-repeat xs n h d =
-    repeats-none no_items (pairs_view xs) (fresh-none (pairs_view xs)) (ap (λ (ys : List (Value × Value)). are_distinct (pairs_view ys)) (sym (take-past xs n h)) ∙ d)
+    repeats-none no_items (pairs_of xs) (fresh-none (pairs_of xs)) (ap (λ (ys : List (Datum × Datum)). are_distinct (pairs_of ys)) (sym (take-past xs n h)) ∙ d)
 
--- ---- marks
+-- ---- a key that is taken out
 
-or_assoc : (a b c : Bool) → (a || (b || c)) ≡ ((a || b) || c)
-or_assoc true b c = refl
-or_assoc false b c = refl
-
-or_false : (a : Bool) → (a || false) ≡ a
-or_false true = refl
-or_false false = refl
-
-or_true : (a : Bool) → (a || true) ≡ true
-or_true true = refl
-or_true false = refl
-
--- one key more
-is_one_of-take : (xs : List Value) (i : ℕ) (x : Value) (d : Datum) → i < length xs → x ≡ get_or xs i x
-    → is_one_of (items_view (take (i + 1) xs)) d ≡ (is_one_of (items_view (take i xs)) d || same (view x) d)
-is_one_of-take xs i x d i< is = rw add-one (by-index xs i x i< is)
+pub two-steps : (k : Datum) (ks : Items) (qs : List (Datum × Datum))
+    → filter (λ p. not (same k p.0 || is_one_of ks p.0)) qs ≡ filter (λ p. not (is_one_of ks p.0)) (filter (λ p. not (same k p.0 || false)) qs)
+two-steps k ks [] = refl
+two-steps k ks (q ∷ qs) = at (same k q.0) (is_one_of ks q.0) refl (two-steps k ks qs)
   where
-    by-index : (ys : List Value) (j : ℕ) (y : Value) → j < length ys → y ≡ get_or ys j y
-        → is_one_of (items_view (take (suc j) ys)) d ≡ (is_one_of (items_view (take j ys)) d || same (view y) d)
-    by-index [] j y j< at = absurd (omega (arith, j<))
-    by-index (z ∷ ys) zero y j< at = or_false (same (view z) d) ∙ ap (λ (v : Value). same (view v) d) (sym at)
-    by-index (z ∷ ys) (suc j) y j< at =
-        ap (λ b. same (view z) d || b) (by-index ys j y (omega (arith, j<)) at)
-        ∙ or_assoc (same (view z) d) (is_one_of (items_view (take j ys)) d) (same (view y) d)
+    at : (a b : Bool) → b ≡ is_one_of ks q.0
+        → filter (λ p. not (same k p.0 || is_one_of ks p.0)) qs ≡ filter (λ p. not (is_one_of ks p.0)) (filter (λ p. not (same k p.0 || false)) qs)
+        → (if not (a || b) then q ∷ filter (λ p. not (same k p.0 || is_one_of ks p.0)) qs else filter (λ p. not (same k p.0 || is_one_of ks p.0)) qs)
+        ≡ filter (λ p. not (is_one_of ks p.0)) (if not (a || false) then q ∷ filter (λ p. not (same k p.0 || false)) qs else filter (λ p. not (same k p.0 || false)) qs)
+    at true b e ih = ih
+    at false true e ih =
+        ih
+        ∙ ap (λ c. if not c then q ∷ filter (λ p. not (is_one_of ks p.0)) (filter (λ p. not (same k p.0 || false)) qs)
+        else filter (λ p. not (is_one_of ks p.0)) (filter (λ p. not (same k p.0 || false)) qs)) e
+    at false false e ih =
+        ap (λ (ps : List (Datum × Datum)). q ∷ ps) ih
+        ∙ ap (λ c. if not c then q ∷ filter (λ p. not (is_one_of ks p.0)) (filter (λ p. not (same k p.0 || false)) qs)
+        else filter (λ p. not (is_one_of ks p.0)) (filter (λ p. not (same k p.0 || false)) qs)) e
 
--- which pairs have a key that passes
-abbrev pub marked : (Datum → Bool) → List (Value × Value) → List Bool
-marked test ps = map (λ p. test (view p.0)) ps
+-- one key, and then the others
+pub without-more : (ps : Pairs) (k : Datum) (ks : Items) → without_keys ps (item k ks) ≡ without_keys (without_keys ps (item k no_items)) ks
+without-more ps k ks =
+    ap pairs_of (two-steps k ks (pairs_listed ps))
+    ∙ ap (λ (qs : List (Datum × Datum)). pairs_of (filter (λ p. not (is_one_of ks p.0)) qs)) (sym (pairs_listed-of (filter (λ p. not (same k p.0 || false)) (pairs_listed ps))))
 
-marked-same : (s t : Datum → Bool) (ps : List (Value × Value)) → ((d : Datum) → s d ≡ t d) → marked s ps ≡ marked t ps
-marked-same s t [] h = refl
-marked-same s t (p ∷ ps) h = rw (h (view p.0), marked-same s t ps h) refl
+all-kept : (qs : List (Datum × Datum)) → filter (λ p. true) qs ≡ qs
+all-kept [] = refl
+all-kept (q ∷ qs) = ap (λ (ps : List (Datum × Datum)). q ∷ ps) (all-kept qs)
 
-marked-none : (test : Datum → Bool) (d : Datum) (ps : List (Value × Value)) → has_key (pairs_view ps) d ≡ false
-    → marked test ps ≡ marked (λ e. test e || same d e) ps
-marked-none test d [] h = refl
-marked-none test d (p ∷ ps) h =
-    let both : (same (view p.0) d ≡ false) × (has_key (pairs_view ps) d ≡ false) = or-false (same (view p.0) d) (has_key (pairs_view ps) d) h in
-    let apart : same d (view p.0) ≡ false = differ (view p.0) d both.0 (same d (view p.0)) refl in
-    ap (λ b. b ∷ marked test ps) (sym (ap (λ b. test (view p.0) || b) apart ∙ or_false (test (view p.0))))
-    ∙ ap (λ (bs : List Bool). (test (view p.0) || same d (view p.0)) ∷ bs) (marked-none test d ps both.1)
+pub without-none : (ps : Pairs) → without_keys ps no_items ≡ ps
+without-none ps = ap pairs_of (all-kept (pairs_listed ps)) ∙ listed-pairs ps
+  where
+    listed-pairs : (qs : Pairs) → pairs_of (pairs_listed qs) ≡ qs
+    listed-pairs no_pairs = refl
+    listed-pairs (pair k v qs) = ap (pair k v) (listed-pairs qs)
+
+absent-kept : (qs : List (Datum × Datum)) (d : Datum) → has_key (pairs_of qs) d ≡ false → filter (λ p. not (same d p.0 || false)) qs ≡ qs
+absent-kept [] d h = refl
+absent-kept (q ∷ qs) d h =
+    let both : (same q.0 d ≡ false) × (has_key (pairs_of qs) d ≡ false) = or-false (same q.0 d) (has_key (pairs_of qs) d) h in
+    ap (λ t. if not (t || false) then q ∷ filter (λ p. not (same d p.0 || false)) qs else filter (λ p. not (same d p.0 || false)) qs) (differ q.0 d both.0 (same d q.0) refl)
+    ∙ ap (λ (ps : List (Datum × Datum)). q ∷ ps) (absent-kept qs d both.1)
 
 some : (m n : ℕ) → Some m ≡ Some n → m ≡ n
 some m n h = cc
 
-marked-at : (t : Bool) (test : Datum → Bool) (d : Datum) (p : Value × Value) (ps : List (Value × Value)) (o : Option ℕ) (n : ℕ) → same (view p.0) d ≡ t
-    → has_key (pairs_view ps) (view p.0) ≡ false
-    → ((m : ℕ) → o ≡ Some m → set (marked test ps) m true ≡ marked (λ e. test e || same d e) ps)
-    → (if t then Some 0 else option_map (λ (j : ℕ). suc j) o) ≡ Some n
-    → set (test (view p.0) ∷ marked test ps) n true ≡ (test (view p.0) || same d (view p.0)) ∷ marked (λ e. test e || same d e) ps
-marked-at true test d p ps o zero is apart ih f =
-    ap (λ b. b ∷ marked test ps) (sym (ap (λ b. test (view p.0) || b) (same-sym (view p.0) d is) ∙ or_true (test (view p.0))))
-    ∙ ap (λ (bs : List Bool). (test (view p.0) || same d (view p.0)) ∷ bs) (marked-none test d ps (has_key-along (pairs_view ps) d (view p.0) (same-sym (view p.0) d is) apart))
-marked-at true test d p ps o (suc m) is apart ih f = absurd (omega (arith, some 0 (suc m) f))
-marked-at false test d p ps None n is apart ih f = absurd (cc)
-marked-at false test d p ps (Some j) zero is apart ih f = absurd (omega (arith, some (suc j) 0 f))
-marked-at false test d p ps (Some j) (suc m) is apart ih f =
-    ap (λ b. b ∷ set (marked test ps) m true) (sym (ap (λ b. test (view p.0) || b) (differ (view p.0) d is (same d (view p.0)) refl) ∙ or_false (test (view p.0))))
-    ∙ ap (λ (bs : List Bool). (test (view p.0) || same d (view p.0)) ∷ bs) (ih m (ap Some (omega (arith, some (suc j) (suc m) f))))
-
-marked-one : (test : Datum → Bool) (d : Datum) (ps : List (Value × Value)) (n : ℕ) → are_distinct (pairs_view ps) ≡ true → first_place (pairs_view ps) d ≡ Some n
-    → set (marked test ps) n true ≡ marked (λ e. test e || same d e) ps
-marked-one test d [] n h e = absurd (cc)
-marked-one test d (p ∷ ps) n h e =
-    marked-at (same (view p.0) d) test d p ps (first_place (pairs_view ps) d) n refl
-    (not-true _ (and-left (not (has_key (pairs_view ps) (view p.0))) (are_distinct (pairs_view ps)) h))
-    (λ m f. marked-one test d ps m (and-right (not (has_key (pairs_view ps) (view p.0))) (are_distinct (pairs_view ps)) h) f)
+removed-is : (qs : List (Datum × Datum)) (d : Datum) (n : ℕ) → are_distinct (pairs_of qs) ≡ true → first_place (pairs_of qs) d ≡ Some n
+    → filter (λ p. not (same d p.0 || false)) qs ≡ remove qs n
+removed-is [] d n h e = absurd (cc)
+removed-is (q ∷ qs) d n h e =
+    at (same q.0 d) refl (first_place (pairs_of qs) d) n
+    (λ m f. removed-is qs d m (and-right (not (has_key (pairs_of qs) q.0)) (are_distinct (pairs_of qs)) h) f)
     e
-
-pub marks-step : (keys : List Value) (i : ℕ) (key : Value) (ps : List (Value × Value)) (o : Option ℕ) (ms : List Bool) → i < length keys → key ≡ get_or keys i key
-    → are_distinct (pairs_view ps) ≡ true → o ≡ first_place (pairs_view ps) (view key) → ms ≡ marked (is_one_of (items_view (take i keys))) ps
-    → with_mark o ms ≡ marked (is_one_of (items_view (take (i + 1) keys))) ps
-marks-step keys i key ps None ms i< is h e was =
-    was
-    ∙ marked-none (is_one_of (items_view (take i keys))) (view key) ps (has_key-first (pairs_view ps) (view key) (sym e))
-    ∙ sym (marked-same _ _ ps (λ d. is_one_of-take keys i key d i< is))
-marks-step keys i key ps (Some n) ms i< is h e was =
-    ap (λ (bs : List Bool). set bs n true) was
-    ∙ marked-one (is_one_of (items_view (take i keys))) (view key) ps n h (sym e)
-    ∙ sym (marked-same _ _ ps (λ d. is_one_of-take keys i key d i< is))
-
-pub marks-start : (ps : List (Value × Value)) → replicate (length ps) false ≡ marked (is_one_of no_items) ps
-marks-start [] = refl
-marks-start (p ∷ ps) = ap (λ (bs : List Bool). false ∷ bs) (marks-start ps)
-
-pub marks-resized : (ps : List (Value × Value)) (xs : List Bool) (l : ℕ) → xs ≡ [] → l ≡ 0
-    → take (length ps) xs ++ replicate (length ps - l) false ≡ marked (is_one_of no_items) ps
-marks-resized ps xs l e f =
-    let sized : length ps - 0 ≡ length ps = omega arith in
-    let none : take (length ps) [] ≡ [] = take-past {A = Bool} [] (length ps) (omega arith) in
-    ap (λ (ys : List Bool). take (length ps) ys ++ replicate (length ps - l) false) e
-    ∙ ap (λ (m : ℕ). take (length ps) [] ++ replicate (length ps - m) false) f
-    ∙ ap (λ (ys : List Bool). ys ++ replicate (length ps - 0) false) none
-    ∙ ap (λ (m : ℕ). replicate m false) sized
-    ∙ marks-start ps
-
-pub length-marked : (test : Datum → Bool) (ps : List (Value × Value)) → length (marked test ps) ≡ length ps
-length-marked test [] = refl
-length-marked test (p ∷ ps) = ap suc (length-marked test ps)
-
-pub place-marked : (ps : List (Value × Value)) (d : Datum) (o : Option ℕ) (size : ℕ) → o ≡ first_place (pairs_view ps) d → size ≡ length ps → IfSome o (λ n. n < size)
-place-marked ps d None size e f = tt
-place-marked ps d (Some n) size e f = omega (arith, f, first_place-within ps d n (sym e))
-
--- ---- what is left over
-
-pub unmarked-filter : (test : Datum → Bool) (ps : List (Value × Value)) → unmarked (marked test ps) (map pair_view ps) ≡ filter (λ q. not (test q.0)) (map pair_view ps)
-unmarked-filter test [] = refl
-unmarked-filter test (p ∷ ps) = at (test (view p.0)) (unmarked-filter test ps)
   where
-    at : (t : Bool) → unmarked (marked test ps) (map pair_view ps) ≡ filter (λ q. not (test q.0)) (map pair_view ps)
-        → unmarked (t ∷ marked test ps) (pair_view p ∷ map pair_view ps)
-        ≡ (if not t then pair_view p ∷ filter (λ q. not (test q.0)) (map pair_view ps) else filter (λ q. not (test q.0)) (map pair_view ps))
-    at true ih = ih
-    at false ih = ap (λ (qs : List (Datum × Datum)). pair_view p ∷ qs) ih
+    at : (t : Bool) → same q.0 d ≡ t → (o : Option ℕ) (m : ℕ)
+        → ((j : ℕ) → o ≡ Some j → filter (λ p. not (same d p.0 || false)) qs ≡ remove qs j)
+        → (if t then Some 0 else option_map (λ (j : ℕ). suc j) o) ≡ Some m
+        → filter (λ p. not (same d p.0 || false)) (q ∷ qs) ≡ remove (q ∷ qs) m
+    at true is o zero ih f =
+        ap (λ t. if not (t || false) then q ∷ filter (λ p. not (same d p.0 || false)) qs else filter (λ p. not (same d p.0 || false)) qs) (same-sym q.0 d is)
+        ∙ absent-kept qs d
+        (has_key-along (pairs_of qs) d q.0 (same-sym q.0 d is) (not-true _ (and-left (not (has_key (pairs_of qs) q.0)) (are_distinct (pairs_of qs)) h)))
+    at true is o (suc m) ih f = absurd (omega (arith, some 0 (suc m) f))
+    at false is None m ih f = absurd (cc)
+    at false is (Some j) zero ih f = absurd (omega (arith, some (suc j) 0 f))
+    at false is (Some j) (suc m) ih f =
+        ap (λ t. if not (t || false) then q ∷ filter (λ p. not (same d p.0 || false)) qs else filter (λ p. not (same d p.0 || false)) qs) (differ q.0 d is (same d q.0) refl)
+        ∙ ap (λ (ps : List (Datum × Datum)). q ∷ ps) (ih m (ap Some (omega (arith, some (suc j) (suc m) f))))
+
+-- what is left where the key stands at a place, and where it does not stand
+pub left-found : (qs rs : List (Datum × Datum)) (d : Datum) (n : ℕ) → are_distinct (pairs_of qs) ≡ true → first_place (pairs_of qs) d ≡ Some n → rs ≡ remove qs n
+    → pairs_of rs ≡ without_keys (pairs_of qs) (item d no_items)
+left-found qs rs d n h e is =
+    ap pairs_of (is ∙ sym (removed-is qs d n h e))
+    ∙ ap (λ (ps : List (Datum × Datum)). pairs_of (filter (λ p. not (same d p.0 || false)) ps)) (sym (pairs_listed-of qs))
+
+pub left-absent : (qs : List (Datum × Datum)) (d : Datum) → first_place (pairs_of qs) d ≡ None → pairs_of qs ≡ without_keys (pairs_of qs) (item d no_items)
+left-absent qs d e =
+    ap pairs_of (sym (absent-kept qs d (has_key-first (pairs_of qs) d e)))
+    ∙ ap (λ (ps : List (Datum × Datum)). pairs_of (filter (λ p. not (same d p.0 || false)) ps)) (sym (pairs_listed-of qs))
 
 has_key-filter : (f : Datum × Datum → Bool) (qs : List (Datum × Datum)) (d : Datum) → has_key (pairs_of qs) d ≡ false → has_key (pairs_of (filter f qs)) d ≡ false
 has_key-filter f [] d h = refl
@@ -258,14 +207,33 @@ distinct-filter f (q ∷ qs) h =
     at true ih n = and-both (not (has_key (pairs_of (filter f qs)) q.0)) (are_distinct (pairs_of (filter f qs))) (true-not _ n) ih
     at false ih n = ih
 
-pub left-is : (keys : List Value) (ps rest : List (Value × Value)) (ms : List Bool) → ms ≡ marked (is_one_of (items_view keys)) ps → map pair_view rest ≡ unmarked ms (map pair_view ps)
-    → pairs_view rest ≡ without_keys (pairs_view ps) (items_view keys)
-left-is keys ps rest ms e is =
-    ap pairs_of (is ∙ ap (λ (bs : List Bool). unmarked bs (map pair_view ps)) e ∙ unmarked-filter (is_one_of (items_view keys)) ps)
-    ∙ sym (ap (λ (qs : List (Datum × Datum)). pairs_of (filter (λ q. not (is_one_of (items_view keys) q.0)) qs)) (pairs_listed-of (map pair_view ps)))
+pub left-distinct : (qs rs : List (Datum × Datum)) (d : Datum) (n : ℕ) → are_distinct (pairs_of qs) ≡ true → first_place (pairs_of qs) d ≡ Some n → rs ≡ remove qs n
+    → are_distinct (pairs_of rs) ≡ true
+left-distinct qs rs d n h e is =
+    ap (λ (ps : List (Datum × Datum)). are_distinct (pairs_of ps)) (is ∙ sym (removed-is qs d n h e))
+    ∙ distinct-filter (λ p. not (same d p.0 || false)) qs h
 
-pub left-distinct : (keys : List Value) (ps rest : List (Value × Value)) (ms : List Bool) → ms ≡ marked (is_one_of (items_view keys)) ps → map pair_view rest ≡ unmarked ms (map pair_view ps)
-    → are_distinct (pairs_view ps) ≡ true → are_distinct (pairs_view rest) ≡ true
-left-distinct keys ps rest ms e is h =
-    ap (λ (qs : List (Datum × Datum)). are_distinct (pairs_of qs)) (is ∙ ap (λ (bs : List Bool). unmarked bs (map pair_view ps)) e ∙ unmarked-filter (is_one_of (items_view keys)) ps)
-    ∙ distinct-filter _ (map pair_view ps) h
+pub left-pairs : (qs rs : List (Datum × Datum)) (n : ℕ) → rs ≡ remove qs n → pairs_of rs ≡ without_at n (pairs_of qs)
+left-pairs qs rs n is = ap pairs_of is ∙ at qs n
+  where
+    at : (ps : List (Datum × Datum)) (m : ℕ) → pairs_of (remove ps m) ≡ without_at m (pairs_of ps)
+    at [] zero = refl
+    at [] (suc m) = refl
+    at (p ∷ ps) zero = refl
+    at (p ∷ ps) (suc m) = ap (pair p.0 p.1) (at ps m)
+
+-- ---- key by key
+
+pub keys-behind : (vs : List Value) (i : ℕ) (v : Value) → v ≡ get_or vs i v → i < length vs → items_view (drop i vs) ≡ item (view v) (items_view (drop (i + 1) vs))
+keys-behind vs i v is h = rw (add-one) (at vs i is h)
+  where
+    at : (ws : List Value) (j : ℕ) → v ≡ get_or ws j v → j < length ws → items_view (drop j ws) ≡ item (view v) (items_view (drop (suc j) ws))
+    at [] j e l = absurd (omega (arith, l))
+    at (w ∷ ws) zero e l = ap (λ (x : Value). item (view x) (items_view ws)) (sym e)
+    at (w ∷ ws) (suc j) e l = at ws j e (omega (arith, l))
+
+pub keys-past : (vs : List Value) (i : ℕ) → length vs ≤ i → items_view (drop i vs) ≡ no_items
+keys-past [] zero h = refl
+keys-past [] (suc i) h = refl
+keys-past (v ∷ vs) zero h = absurd (omega (arith, h))
+keys-past (v ∷ vs) (suc i) h = keys-past vs i (omega (arith, h))

@@ -1,5 +1,5 @@
 -- A key looked for in an index, and one more place in it.
-use Rattle.std.proofs.Common.{◌≡◌, ⊎_elim, ℕ, zero, suc, ◌+◌, ◌<◌, ◌≤◌, Bool, true, false, List, [], ◌∷◌, length, get_or, Some, None, option_map, refl, sym, ap, ◌∙◌, subst, arith}
+use Rattle.std.proofs.Common.{◌≡◌, ⊎_elim, ℕ, zero, suc, ◌+◌, ◌<◌, ◌≤◌, Bool, true, false, List, [], ◌∷◌, length, get_or, Some, None, option_map, map, refl, sym, ap, ◌∙◌, subst, arith}
 use Rattle.std.specs.Prelude.{if◌then◌else◌}
 use Rattle.std.specs.List.{All, Contains, insert}
 use Rattle.std.specs.declared.cmp.Ordering.TheVariants.{Less, Equal}
@@ -8,8 +8,8 @@ use Rattle.std.proofs.lemmas.List.Elements.{All-cons, All-weaker}
 use Rattle.std.proofs.lemmas.List.Sorted.{IsPermutation-insert, All-permutation, Contains-permutation}
 use Rattle.std.proofs.lemmas.List.Edits.{length-insert, get_or-insert_below, get_or-insert_at, get_or-insert_above}
 use Rattle.value_data.specs.Datum.{Datum, Pairs, no_pairs, pair}
-use Rattle.value_data.specs.Inside.View.{view, pairs_view}
-use Rattle.value_data.specs.declared.value.Value.{Value}
+use Rattle.value_data.specs.Listed.{pairs_of}
+use Rattle.value_data.specs.Inside.Seen.{key_in}
 use Rattle.value_data.specs.Same.{same, size}
 use Rattle.value_data.specs.Keyed.{behind_all}
 use Rattle.value_data.specs.Inside.Placed.{first_place, with_value}
@@ -17,7 +17,7 @@ use Rattle.value_data.specs.Inside.Order.{SortKey, order, sort_key}
 use Rattle.value_data.specs.Inside.Index.{key_at, Indexes, Belongs}
 use Rattle.value_data.proofs.Ordered.{order-self, order-Less}
 use Rattle.value_data.proofs.Ties.{same-key, key-same}
-use Rattle.value_data.proofs.Sameness.{size-pairs_view}
+use Rattle.value_data.proofs.Sameness.{size-pairs_of}
 
 pub not-below : (x y : SortKey) → x ≡ y → order x y ≡ Less → ⊥
 not-below x y e h = let f : Equal ≡ Less = sym (order-self y) ∙ sym (ap (λ w. order w y) e) ∙ h in absurd (cc)
@@ -103,13 +103,13 @@ behind-more ns ps d middle h e i k l =
     (cases_lt middle i)
 
 -- the key at a place is that of its pair
-pub key-got : (xs : List (Value × Value)) (n : ℕ) (p : Value × Value) → n < length xs → sort_key (view (get_or xs n p).0) ≡ key_at (pairs_view xs) n
-key-got [] n p h = absurd (omega (arith, h))
-key-got (x ∷ xs) zero p h = refl
-key-got (x ∷ xs) (suc n) p h = key-got xs n p (omega (arith, h))
+pub key-got : (xs : List (Datum × Datum)) (n : ℕ) (k : Datum) → k ≡ get_or (map key_in xs) n k → n < length xs → sort_key k ≡ key_at (pairs_of xs) n
+key-got [] n k is h = absurd (omega (arith, h))
+key-got (x ∷ xs) zero k is h = ap sort_key is
+key-got (x ∷ xs) (suc n) k is h = key-got xs n k is (omega (arith, h))
 
-pub index-within : (xs : List (Value × Value)) (ns : List ℕ) → Indexes ns (pairs_view xs) → All (λ n. n < length xs) ns
-index-within xs ns h k d l = omega (arith, h.within k d l, size-pairs_view xs)
+pub index-within : (xs : List (Datum × Datum)) (ns : List ℕ) → Indexes ns (pairs_of xs) → All (λ n. n < length xs) ns
+index-within xs ns h k d l = omega (arith, h.within k d l, size-pairs_of xs)
 
 -- ---- one more pair
 

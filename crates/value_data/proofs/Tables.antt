@@ -1,14 +1,13 @@
 -- Pairs found by their keys, and one more pair.
-use Rattle.std.proofs.Common.{◌≡◌, ℕ, zero, suc, ◌+◌, ◌<◌, ◌≤◌, Bool, true, false, not, ◌||◌, List}
-use Rattle.std.proofs.Common.{[], ◌∷◌, ◌++◌, length, get_or, Option, Some, None, option_map, take}
-use Rattle.std.proofs.Common.{add-one, refl, sym, ap, ◌∙◌, arith}
+use Rattle.std.proofs.Common.{◌≡◌, ℕ, zero, suc, ◌+◌, ◌<◌, Bool, true, false, not, ◌||◌, List}
+use Rattle.std.proofs.Common.{[], ◌∷◌, ◌++◌, length, get_or, Option, Some, None, option_map, take, map}
+use Rattle.std.proofs.Common.{add-one, refl, sym, ap, arith}
 use Rattle.std.specs.Prelude.{if◌then◌else◌}
-use Rattle.value_data.specs.Datum.{Datum, Pairs, no_pairs, pair}
-use Rattle.value_data.specs.Inside.View.{view, pairs_view}
-use Rattle.value_data.specs.Listed.{pairs_of}
-use Rattle.value_data.specs.declared.value.Value.{Value}
-use Rattle.value_data.specs.Same.{same, size}
-use Rattle.value_data.specs.Keyed.{value_under, has_key, nth_value, value_at_place, behind_all}
+use Rattle.value_data.specs.Datum.{Datum, item, Pairs, no_pairs, pair}
+use Rattle.value_data.specs.Listed.{items_of, pairs_of}
+use Rattle.value_data.specs.Inside.Seen.{key_in, value_in}
+use Rattle.value_data.specs.Same.{same}
+use Rattle.value_data.specs.Keyed.{value_under, has_key, keys_of, values_of, nth_value, value_at_place, behind_all}
 use Rattle.value_data.specs.Inside.Placed.{first_place, are_distinct}
 use Rattle.value_data.proofs.Equivalence.{same-sym, and-left, and-right, and-both}
 use Rattle.value_data.proofs.Transitive.{same-trans}
@@ -98,36 +97,29 @@ has_key-along (pair m x qs) k l e h =
 
 -- ---- steps of the functions
 
-pub value-found : (xs : List (Value × Value)) (n : ℕ) (p : Value × Value) → p ≡ get_or xs n p → n < length xs → nth_value (pairs_view xs) n ≡ Some (view p.1)
-value-found [] n p e h = absurd (omega (arith, h))
-value-found (x ∷ xs) zero p e h = ap (λ (q : Value × Value). Some (view q.1)) (sym e)
-value-found (x ∷ xs) (suc n) p e h = value-found xs n p e (omega (arith, h))
-
-pub value-past : (xs : List (Value × Value)) (n : ℕ) → length xs ≤ n → nth_value (pairs_view xs) n ≡ None
-value-past [] n h = refl
-value-past (x ∷ xs) zero h = absurd (omega (arith, h))
-value-past (x ∷ xs) (suc n) h = value-past xs n (omega (arith, h))
-
 pub ruleset table_steps = (value-first)
 
-pub take-behind : (xs : List (Value × Value)) (n : ℕ) (p : Value × Value) → p ≡ get_or xs n p → n < length xs
-    → pairs_view (take (n + 1) xs) ≡ behind_all (pairs_view (take n xs)) (view p.0) (view p.1)
+pub take-behind : (xs : List (Datum × Datum)) (n : ℕ) (p : Datum × Datum) → p ≡ get_or xs n p → n < length xs
+    → pairs_of (take (n + 1) xs) ≡ behind_all (pairs_of (take n xs)) p.0 p.1
 take-behind xs n p is h = rw (add-one) (more xs n p is h)
   where
-    more : (ys : List (Value × Value)) (m : ℕ) (q : Value × Value) → q ≡ get_or ys m q → m < length ys
-        → pairs_view (take (suc m) ys) ≡ behind_all (pairs_view (take m ys)) (view q.0) (view q.1)
+    more : (ys : List (Datum × Datum)) (m : ℕ) (q : Datum × Datum) → q ≡ get_or ys m q → m < length ys
+        → pairs_of (take (suc m) ys) ≡ behind_all (pairs_of (take m ys)) q.0 q.1
     more [] m q e l = absurd (omega (arith, l))
-    more (y ∷ ys) zero q e l = ap (λ (x : Value × Value). pair (view x.0) (view x.1) no_pairs) (sym e)
-    more (y ∷ ys) (suc m) q e l = ap (pair (view y.0) (view y.1)) (more ys m q e (omega (arith, l)))
+    more (y ∷ ys) zero q e l = ap (λ (x : Datum × Datum). pair x.0 x.1 no_pairs) (sym e)
+    more (y ∷ ys) (suc m) q e l = ap (pair y.0 y.1) (more ys m q e (omega (arith, l)))
 
-pub size-take : (xs : List (Value × Value)) (n : ℕ) → n ≤ length xs → size (pairs_view (take n xs)) ≡ n
-size-take xs zero h = refl
-size-take [] (suc n) h = absurd (omega (arith, h))
-size-take (x ∷ xs) (suc n) h = omega (arith, size-take xs n (omega (arith, h)))
+-- ---- keys and values as rows
 
-pub distinct-more : (xs : List (Value × Value)) (n : ℕ) (p : Value × Value) → p ≡ get_or xs n p → n < length xs
-    → are_distinct (pairs_view (take n xs)) ≡ true → first_place (pairs_view (take n xs)) (view p.0) ≡ None
-    → are_distinct (pairs_view (take (n + 1) xs)) ≡ true
-distinct-more xs n p is h d e =
-    ap are_distinct (take-behind xs n p is h)
-    ∙ distinct-behind (pairs_view (take n xs)) (view p.0) (view p.1) d (has_key-first (pairs_view (take n xs)) (view p.0) e)
+pub keys-of-pairs : (qs : List (Datum × Datum)) → items_of (map key_in qs) ≡ keys_of (pairs_of qs)
+keys-of-pairs [] = refl
+keys-of-pairs (q ∷ qs) = ap (item q.0) (keys-of-pairs qs)
+
+pub values-of-pairs : (qs : List (Datum × Datum)) → items_of (map value_in qs) ≡ values_of (pairs_of qs)
+values-of-pairs [] = refl
+values-of-pairs (q ∷ qs) = ap (item q.1) (values-of-pairs qs)
+
+pub value-got : (qs : List (Datum × Datum)) (n : ℕ) (v : Datum) → v ≡ get_or (map value_in qs) n v → n < length qs → nth_value (pairs_of qs) n ≡ Some v
+value-got [] n v is h = absurd (omega (arith, h))
+value-got (q ∷ qs) zero v is h = ap Some (sym is)
+value-got (q ∷ qs) (suc n) v is h = value-got qs n v is (omega (arith, h))

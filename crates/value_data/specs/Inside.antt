@@ -6,7 +6,6 @@ pub mod Held
 pub mod Hash
 pub mod Order
 pub mod View
-pub mod Marked
 pub mod Ends
 pub mod Placed
 pub mod Index
@@ -16,4 +15,3 @@ pub mod Nodes
 pub mod Falls
 pub mod Seen
 pub mod BuiltView
-pub mod Left

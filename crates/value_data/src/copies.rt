@@ -1,7 +1,7 @@
 // Copies: one more owner of what a value shares.
 ghost use Rattle.std.specs.Prelude.{◌≡◌, ◌++◌, IfOk, map};
 ghost use Rattle.std.specs.Arc.{arc_str_bytes};
-ghost use Rattle.value_data.specs.Inside.View.{view, views, pair_view};
+ghost use Rattle.value_data.specs.Inside.View.{view, views};
 ghost use Rattle.value_data.specs.Inside.Nodes.{held_count, items_held};
 
 use crate::value::Value;
@@ -86,19 +86,6 @@ pub(crate) fn share_both(
     let mut copies = share_items(alloc, first, second.len())?;
     for item in second {
         copies.push(share(item)?)?;
-    }
-    Ok(copies)
-}
-
-pub(crate) fn copy_pairs(
-    alloc: Global,
-    pairs: &[(Value, Value)],
-) -> Result<Vec<(Value, Value)>, AllocError>
-    ensures { IfOk result (λ copies. map pair_view copies.items ≡ map pair_view pairs.now) }
-{
-    let mut copies = Vec::with_capacity(alloc, pairs.len())?;
-    for (key, value) in pairs {
-        copies.push_reserved((copy(key)?, copy(value)?));
     }
     Ok(copies)
 }

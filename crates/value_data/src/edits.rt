@@ -1,23 +1,23 @@
 // Pairs put into a map, one after another.
 #![tactic(auto, using(crate::proofs::Editing::edit_steps))]
 
-ghost use Rattle.std.specs.Prelude.{◌≡◌, ◌<◌, ℕ, true, vec_len, map, IfOk, OnOk};
+ghost use Rattle.std.specs.Prelude.{◌≡◌, ℕ, true, map, IfOk};
 ghost use Rattle.value_data.specs.Datum.{Pairs};
-ghost use Rattle.value_data.specs.Inside.View.{view, pair_view, pairs_view};
+ghost use Rattle.value_data.specs.Inside.View.{view};
 ghost use Rattle.value_data.specs.Keyed.{behind_all};
 ghost use Rattle.value_data.specs.Inside.Placed.{are_distinct, with_value, StandsAt};
 ghost use Rattle.value_data.specs.Put.{put_pair, put_pairs};
 ghost use Rattle.value_data.specs.Inside.Index.{Indexes};
-ghost use Rattle.value_data.specs.Inside.Fits.{FitsPairs};
-ghost use Rattle.value_data.specs.Inside.Nodes.{KeepsPairs};
+ghost use Rattle.value_data.specs.Inside.Fits.{FitsPeaks};
+ghost use Rattle.value_data.specs.Inside.Nodes.{KeepsPairs, KeepsEdited, entry_pairs};
 ghost use Rattle.value_data.specs.Inside.Seen.{entry_view, MayFit};
 
 use crate::building::sealed_table;
-use crate::copies::{copy, copy_pairs};
-use crate::node_measures::PairsMeasure;
+use crate::copies::copy;
+use crate::node_measures::Peaks;
 use crate::places::search;
-use crate::value::{PairsNode, Table, Value};
-use chunked_list::ChunkedList;
+use crate::value::{Entries, PairsNode, Table, Value};
+use chunked_list::RankedPlaces;
 use std::alloc::{AllocError, Global};
 use std::sync::Arc;
 
@@ -25,33 +25,69 @@ impl Table {
     /// The pairs with more put in, one after another: a key there keeps its place and takes the
     /// later value. It fails only for want of memory.
     ///
-    /// It compares n log n keys for n more. Where somebody else holds the pairs, they are copied
-    /// first. They are measured anew only where a replaced value was the deepest of all, or decided
-    /// the hash of the map.
+    /// Each takes a logarithm of comparisons and of steps, and shares all nodes but those on three
+    /// paths, which are changed in their place where nobody else holds them. All pairs are looked at
+    /// only where a replaced value decided the hash of the map.
     pub fn with_pairs(self, alloc: Global, more: &[(&Value, &Value)]) -> Result<Table, AllocError>
         ensures { IfOk result (λ made. made.pairs
             ≡ put_pairs self.pairs (map entry_view more.now)) }
     {
-        let PairsNode {
-            mut pairs,
-            mut index,
-            measure,
-        } = owned_node(alloc, self)?;
-        let mut measure = Some(measure);
+        let mut edited = Edited::of(owned_node(alloc, self)?);
         for (key, value) in more {
-            measure = put(alloc, &mut pairs, &mut index, measure, key, value)?;
+            edited = put(alloc, edited, key, value)?;
         }
-        let measure = match measure {
-            Some(measure) => measure,
-            None => measure_of(&pairs),
+        edited.sealed(alloc)
+    }
+}
+
+// Pairs that are changed, with their index, and with their peaks, which are lost where they need
+// all pairs.
+#[derive(Drop)]
+pub(crate) struct Edited {
+    pub(crate) entries: Entries,
+    pub(crate) index: RankedPlaces,
+    pub(crate) peaks: Option<Peaks>,
+}
+
+impl Edited {
+    pub(crate) fn of(node: PairsNode) -> Edited
+        requires { KeepsPairs node }
+        ensures pairs { result.entries ≡ node.entries }
+        ensures keeps { KeepsEdited result }
+    {
+        let PairsNode {
+            entries,
+            index,
+            peaks,
+        } = node;
+        Edited {
+            entries,
+            index,
+            peaks: Some(peaks),
+        }
+    }
+
+    // The map of the pairs.
+    pub(crate) fn sealed(self, alloc: Global) -> Result<Table, AllocError>
+        requires { KeepsEdited self }
+        ensures { IfOk result (λ made. made.pairs ≡ entry_pairs self.entries) }
+    {
+        let Edited {
+            entries,
+            index,
+            peaks,
+        } = self;
+        let peaks = match peaks {
+            Some(peaks) => peaks,
+            None => peaks_of(&entries),
         };
-        sealed_table(alloc, pairs, index, measure)
+        sealed_table(alloc, entries, index, peaks)
     }
 }
 
 // What the node of the pairs holds, or copies of it where somebody else holds it too.
 fn owned_node(alloc: Global, table: Table) -> Result<PairsNode, AllocError>
-    ensures pairs { IfOk result (λ node. pairs_view node.pairs.items ≡ table.pairs) }
+    ensures pairs { IfOk result (λ node. entry_pairs node.entries ≡ table.pairs) }
     ensures keeps { IfOk result (λ node. KeepsPairs node) }
 {
     let Table { node } = table;
@@ -61,85 +97,66 @@ fn owned_node(alloc: Global, table: Table) -> Result<PairsNode, AllocError>
     }
 }
 
-fn copy_node(alloc: Global, node: &PairsNode) -> Result<PairsNode, AllocError>
+pub(crate) fn copy_node(alloc: Global, node: &PairsNode) -> Result<PairsNode, AllocError>
     requires { KeepsPairs node.now }
-    ensures pairs { IfOk result (λ copied. pairs_view copied.pairs.items
-        ≡ pairs_view node.now.pairs.items) }
+    ensures pairs { IfOk result (λ copied. copied.entries ≡ node.now.entries) }
     ensures keeps { IfOk result (λ copied. KeepsPairs copied) }
 {
-    let pairs = copy_pairs(alloc, &node.pairs)?;
     Ok(PairsNode {
+        entries: node.entries.copy()?,
         index: node.index.copy(alloc)?,
-        pairs,
-        measure: node.measure,
+        peaks: node.peaks,
     })
 }
 
-pub(crate) fn measure_of(pairs: &[(Value, Value)]) -> PairsMeasure
-    ensures { FitsPairs result (pairs_view pairs.now) }
+fn peaks_of(entries: &Entries) -> Peaks
+    ensures { FitsPeaks result (entry_pairs entries.now) }
 {
-    let mut measure = PairsMeasure::of_none();
-    for (key, value) in pairs {
-        measure = measure.with_pair(key, value);
+    let mut peaks = Peaks::of_none();
+    for place in 0..entries.len() {
+        let (key, value) = entries.pair(place);
+        peaks = peaks.with_pair(key, value);
     }
-    measure
+    peaks
 }
 
-// Puts one pair. The measure goes on, and is lost only where it needs all pairs.
-fn put(
-    alloc: Global,
-    pairs: &mut Vec<(Value, Value)>,
-    index: &mut ChunkedList,
-    measure: Option<PairsMeasure>,
-    key: &Value,
-    value: &Value,
-) -> Result<Option<PairsMeasure>, AllocError>
-    requires distinct { are_distinct (pairs_view pairs.old.items) ≡ true }
-    requires indexed { Indexes index.old (pairs_view pairs.old.items) }
-    requires measured { MayFit measure (pairs_view pairs.old.items) }
-    ensures put { IfOk result (λ measure. pairs_view pairs.new.items
-        ≡ put_pair (view key.now) (view value.now) (pairs_view pairs.old.items)) }
-    ensures distinct { IfOk result (λ measure. are_distinct (pairs_view pairs.new.items) ≡ true) }
-    ensures indexed { IfOk result (λ measure. Indexes index.new (pairs_view pairs.new.items)) }
-    ensures measured { IfOk result (λ measure. MayFit measure (pairs_view pairs.new.items)) }
+// Puts one pair. The peaks go on, and are lost only where they need all pairs.
+fn put(alloc: Global, edited: Edited, key: &Value, value: &Value) -> Result<Edited, AllocError>
+    requires { KeepsEdited edited }
+    ensures put { IfOk result (λ put. entry_pairs put.entries
+        ≡ put_pair (view key.now) (view value.now) (entry_pairs edited.entries)) }
+    ensures keeps { IfOk result (λ put. KeepsEdited put) }
 {
-    match search(key, pairs.as_slice(), index) {
-        Ok(place) => {
-            let measure = measure_with_value(measure, &pairs[place], value);
-            set_value(pairs, place, copy(value)?);
-            Ok(measure)
-        }
-        Err(rank) => {
-            index.insert(alloc, rank, pairs.as_slice().len())?;
-            pairs.push((copy(key)?, copy(value)?))?;
-            Ok(with_pair(measure, key, value))
-        }
+    let Edited {
+        entries,
+        index,
+        peaks,
+    } = edited;
+    match search(key, &entries, &index) {
+        Ok(found) => Ok(Edited {
+            peaks: peaks_with_value(peaks, entries.pair(found.place), value),
+            entries: entries.with_value(alloc, found.place, copy(value)?)?,
+            index,
+        }),
+        Err(rank) => Ok(Edited {
+            index: index.with_next(alloc, rank)?,
+            entries: entries.with_pair(alloc, copy(key)?, copy(value)?)?,
+            peaks: with_pair(peaks, key, value),
+        }),
     }
 }
 
-fn with_pair(measure: Option<PairsMeasure>, key: &Value, value: &Value) -> Option<PairsMeasure>
-    ensures { (ps : Pairs) → MayFit measure ps
+fn with_pair(peaks: Option<Peaks>, key: &Value, value: &Value) -> Option<Peaks>
+    ensures { (ps : Pairs) → MayFit peaks ps
         → MayFit result (behind_all ps (view key.now) (view value.now)) }
 {
-    Some(measure?.with_pair(key, value))
+    Some(peaks?.with_pair(key, value))
 }
 
-fn measure_with_value(
-    measure: Option<PairsMeasure>,
-    pair: &(Value, Value),
-    value: &Value,
-) -> Option<PairsMeasure>
-    ensures { (ps : Pairs) (n : ℕ) → MayFit measure ps
-        → StandsAt ps n (view pair.now.0) (view pair.now.1)
+fn peaks_with_value(peaks: Option<Peaks>, pair: (&Value, &Value), value: &Value) -> Option<Peaks>
+    ensures { (ps : Pairs) (n : ℕ) → MayFit peaks ps
+        → StandsAt ps n (view pair.entry.0.now) (view pair.entry.1.now)
         → MayFit result (with_value n (view value.now) ps) }
 {
-    measure?.with_value(&pair.0, &pair.1, value)
-}
-
-// The key at the place stays.
-fn set_value(all: &mut Vec<(Value, Value)>, place: usize, value: Value)
-    requires { place < vec_len all.old }
-    ensures { pairs_view all.new.items ≡ with_value place (view value) (pairs_view all.old.items) }
-{
-    all[place].1 = value;
+    peaks?.with_value(pair.0, pair.1, value)
 }

@@ -11,6 +11,7 @@ mod building;
 mod changes;
 mod copies;
 mod edits;
+mod entries;
 mod equality;
 mod forks;
 mod hashing;

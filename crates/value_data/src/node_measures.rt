@@ -1,4 +1,4 @@
-// What is kept of the items of a list or a vector, and of the pairs of a map.
+// What is kept of the items of a list or a vector, and of the pairs of a map beside their rows.
 ghost use Rattle.std.specs.Prelude.{◌≡◌, ℕ, Bool, ◌&&◌, max, List, [], ◌∷◌, ◌++◌, IfSome};
 ghost use Rattle.value_data.specs.Datum.{Datum, Pairs, no_pairs, map};
 ghost use Rattle.value_data.specs.Listed.{items_of};
@@ -6,9 +6,9 @@ ghost use Rattle.value_data.specs.Inside.View.{view, views};
 ghost use Rattle.value_data.specs.Same.{size};
 ghost use Rattle.value_data.specs.Inside.Hash.{hash, items_hash, salted};
 ghost use Rattle.value_data.specs.Keyed.{behind_all};
-ghost use Rattle.value_data.specs.Inside.Placed.{with_value, StandsAt};
+ghost use Rattle.value_data.specs.Inside.Placed.{with_value, without_at, StandsAt};
 ghost use Rattle.value_data.specs.Inside.Seen.{MayFit};
-ghost use Rattle.value_data.specs.Inside.Fits.{FitsItems, FitsPairs};
+ghost use Rattle.value_data.specs.Inside.Fits.{FitsItems, FitsPeaks};
 
 use crate::hashing::{hash_of, mix, raise, salt};
 use crate::measure::{is_plain, nesting, weight};
@@ -25,12 +25,10 @@ pub(crate) struct ItemsMeasure {
     pub(crate) addend: u64,
 }
 
-// Their weight and nesting, whether all are plain, and the four numbers that a map's hash is made of beside its size.
+// The four numbers that a map's hash is made of beside its size: the greatest of its pairs' hashes
+// in four orders.
 #[derive(Clone, Copy, Debug)]
-pub(crate) struct PairsMeasure {
-    pub(crate) weight: u64,
-    pub(crate) nesting: u64,
-    pub(crate) plain: bool,
+pub(crate) struct Peaks {
     pub(crate) first: u64,
     pub(crate) second: u64,
     pub(crate) third: u64,
@@ -100,15 +98,12 @@ pub(crate) fn measure_of(items: &[Value]) -> ItemsMeasure
     measure
 }
 
-impl PairsMeasure {
+impl Peaks {
     // Of no pairs.
-    pub(crate) fn of_none() -> PairsMeasure
-        ensures { FitsPairs result no_pairs }
+    pub(crate) fn of_none() -> Peaks
+        ensures { FitsPeaks result no_pairs }
     {
-        PairsMeasure {
-            weight: 0,
-            nesting: 0,
-            plain: true,
+        Peaks {
             first: 0,
             second: 0,
             third: 0,
@@ -117,18 +112,12 @@ impl PairsMeasure {
     }
 
     // Of the pairs with one more behind them.
-    pub(crate) fn with_pair(self, key: &Value, value: &Value) -> PairsMeasure
-        ensures { (ps : Pairs) → FitsPairs self ps
-            → FitsPairs result (behind_all ps (view key.now) (view value.now)) }
+    pub(crate) fn with_pair(self, key: &Value, value: &Value) -> Peaks
+        ensures { (ps : Pairs) → FitsPeaks self ps
+            → FitsPeaks result (behind_all ps (view key.now) (view value.now)) }
     {
         let word = mix(mix(9, hash_of(key)), hash_of(value));
-        PairsMeasure {
-            weight: self
-                .weight
-                .saturating_add(weight(key))
-                .saturating_add(weight(value)),
-            nesting: self.nesting.max(nesting(key)).max(nesting(value)),
-            plain: both(self.plain, both(is_plain(key), is_plain(value))),
+        Peaks {
             first: raise(self.first, 0xD6E8FEB86659FD93, word),
             second: raise(self.second, 0x2917014799A6026D, word),
             third: raise(self.third, 0xBF58476D1CE4E5B9, word),
@@ -137,24 +126,15 @@ impl PairsMeasure {
     }
 
     // Of the pairs with another value under a key, where that can be told without the others.
-    pub(crate) fn with_value(self, key: &Value, old: &Value, new: &Value) -> Option<PairsMeasure>
-        ensures { (ps : Pairs) (n : ℕ) → FitsPairs self ps
+    pub(crate) fn with_value(self, key: &Value, old: &Value, new: &Value) -> Option<Peaks>
+        ensures { (ps : Pairs) (n : ℕ) → FitsPeaks self ps
             → StandsAt ps n (view key.now) (view old.now)
             → MayFit result (with_value n (view new.now) ps) }
     {
-        if self.weight == u64::MAX {
-            return None;
-        }
         let hashed = mix(9, hash_of(key));
         let before = mix(hashed, hash_of(old));
         let now = mix(hashed, hash_of(new));
-        Some(PairsMeasure {
-            weight: self
-                .weight
-                .saturating_sub(weight(old))
-                .saturating_add(weight(new)),
-            nesting: greatest(self.nesting, nesting(old), nesting(new))?,
-            plain: all(self.plain, is_plain(old), is_plain(new))?,
+        Some(Peaks {
             first: peak(self.first, 0xD6E8FEB86659FD93, before, now)?,
             second: peak(self.second, 0x2917014799A6026D, before, now)?,
             third: peak(self.third, 0xBF58476D1CE4E5B9, before, now)?,
@@ -162,9 +142,24 @@ impl PairsMeasure {
         })
     }
 
+    // Of the pairs without one, where that can be told without the others.
+    pub(crate) fn without_pair(self, key: &Value, value: &Value) -> Option<Peaks>
+        ensures { (ps : Pairs) (n : ℕ) → FitsPeaks self ps
+            → StandsAt ps n (view key.now) (view value.now)
+            → MayFit result (without_at n ps) }
+    {
+        let word = mix(mix(9, hash_of(key)), hash_of(value));
+        Some(Peaks {
+            first: greatest(self.first, salt(0xD6E8FEB86659FD93, word), 0)?,
+            second: greatest(self.second, salt(0x2917014799A6026D, word), 0)?,
+            third: greatest(self.third, salt(0xBF58476D1CE4E5B9, word), 0)?,
+            fourth: greatest(self.fourth, salt(0x40A7B892E31B1A47, word), 0)?,
+        })
+    }
+
     // What a map of so many pairs hashes to.
     pub(crate) fn hash(self, count: usize) -> u64
-        ensures { (ps : Pairs) → FitsPairs self ps → count ≡ size ps → result ≡ hash (map ps) }
+        ensures { (ps : Pairs) → FitsPeaks self ps → count ≡ size ps → result ≡ hash (map ps) }
     {
         let sized = mix(8, count as u64);
         mix(
@@ -187,24 +182,10 @@ fn greatest(top: u64, old: u64, new: u64) -> Option<u64>
     }
 }
 
-fn both(first: bool, second: bool) -> bool
+pub(crate) fn both(first: bool, second: bool) -> bool
     ensures { result ≡ (first && second) }
 {
     first && second
-}
-
-// The same of tests that all have to hold.
-fn all(held: bool, old: bool, new: bool) -> Option<bool>
-    ensures { IfSome result (λ found. (others : Bool) → held ≡ (others && old)
-        → found ≡ (others && new)) }
-{
-    if held {
-        Some(new)
-    } else if old || !new {
-        Some(false)
-    } else {
-        None
-    }
 }
 
 // The same of numbers that were multiplied by a salt.

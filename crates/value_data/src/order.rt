@@ -4,15 +4,16 @@
 ghost use Rattle.std.specs.Prelude.{◌≡◌, ◌<◌, length};
 ghost use Rattle.std.specs.Arc.{arc_str_bytes};
 ghost use Rattle.value_data.specs.Datum.{list, map};
-ghost use Rattle.value_data.specs.Inside.View.{view, items_view, pairs_view, owner_view};
+ghost use Rattle.value_data.specs.Inside.View.{view, items_view, owner_view};
+ghost use Rattle.value_data.specs.Inside.Nodes.{entry_pairs};
 ghost use Rattle.value_data.specs.Same.{size};
 ghost use Rattle.value_data.specs.Inside.Order.{text, both, number, order, sort_key, content, kind};
 ghost use Rattle.value_data.specs.Inside.Order.{items_sort_key, owner_sort_key, chain, sorted};
 ghost use Rattle.value_data.specs.Inside.Order.{rows};
 ghost use Rattle.value_data.specs.Inside.Index.{rows_at, ArePlaces};
 
-use crate::value::{Owner, RefName, Sequence, Table, Value};
-use chunked_list::ChunkedList;
+use crate::value::{Entries, Owner, RefName, Sequence, Table, Value};
+use chunked_list::RankedPlaces;
 use std::cmp::Ordering;
 use std::sync::ArcStr;
 
@@ -160,9 +161,9 @@ fn compare_maps(left: &Table, right: &Table) -> Ordering
         return numbers;
     }
     compare_rows(
-        &left.node.pairs,
+        &left.node.entries,
         &left.node.index,
-        &right.node.pairs,
+        &right.node.entries,
         &right.node.index,
     )
 }
@@ -170,19 +171,21 @@ fn compare_maps(left: &Table, right: &Table) -> Ordering
 // Of as many pairs each, those at the places of two indexes, in turn.
 #[cycle(compare)]
 fn compare_rows(
-    left: &[(Value, Value)],
-    left_index: &ChunkedList,
-    right: &[(Value, Value)],
-    right_index: &ChunkedList,
+    left: &Entries,
+    left_index: &RankedPlaces,
+    right: &Entries,
+    right_index: &RankedPlaces,
 ) -> Ordering
-    requires left { ArePlaces left_index.now (length left.now) }
-    requires right { ArePlaces right_index.now (length right.now) }
-    requires equal { length left.now ≡ length right.now }
-    ensures { result ≡ order (rows_at (pairs_view left.now) left_index.now)
-        (rows_at (pairs_view right.now) right_index.now) }
+    requires left { ArePlaces left_index.now (length left.now.listed) }
+    requires right { ArePlaces right_index.now (length right.now.listed) }
+    requires equal { length left.now.listed ≡ length right.now.listed }
+    ensures { result ≡ order (rows_at (entry_pairs left.now) left_index.now)
+        (rows_at (entry_pairs right.now) right_index.now) }
 {
     for rank in 0..left.len() {
-        let compared = compare_pairs(&left[left_index.at(rank)], &right[right_index.at(rank)]);
+        let ours = left.pair(left_index.at(rank));
+        let theirs = right.pair(right_index.at(rank));
+        let compared = compare_pairs(ours, theirs);
         if compared.is_ne() {
             return compared;
         }
@@ -192,13 +195,13 @@ fn compare_rows(
 
 // The keys decide, and then the values.
 #[cycle(compare)]
-fn compare_pairs(left: &(Value, Value), right: &(Value, Value)) -> Ordering
-    ensures { result ≡ order (both (sort_key (view left.now.0)) (sort_key (view left.now.1)))
-        (both (sort_key (view right.now.0)) (sort_key (view right.now.1))) }
+fn compare_pairs(left: (&Value, &Value), right: (&Value, &Value)) -> Ordering
+    ensures { result ≡ order (both (sort_key (view left.entry.0.now)) (sort_key (view left.entry.1.now)))
+        (both (sort_key (view right.entry.0.now)) (sort_key (view right.entry.1.now))) }
 {
-    let compared = compare(&left.0, &right.0);
+    let compared = compare(left.0, right.0);
     if compared.is_ne() {
         return compared;
     }
-    compare(&left.1, &right.1)
+    compare(left.1, right.1)
 }

@@ -3,6 +3,7 @@
 
 ghost use Rattle.std.specs.Prelude.{◌≡◌, ◌==◌, ◌<◌, ◌≤◌, ◌+◌, ◌^◌, ◌++◌, ◌∷◌, IfOk, length, map};
 ghost use Rattle.std.specs.Prelude.{take, drop, option_map, slice_get, slice_index_or};
+ghost use Rattle.std.specs.List.{remove};
 ghost use Rattle.value_data.specs.Datum.{item};
 ghost use Rattle.value_data.specs.Listed.{listed, items_of};
 ghost use Rattle.value_data.specs.Inside.View.{view, items_view};
@@ -133,6 +134,16 @@ impl Sequence {
     {
         let mut tree = self.into_tree();
         tree.drop_first(alloc)?;
+        Ok(Sequence::of(tree))
+    }
+
+    // The items without that at a place, at the same cost.
+    pub(crate) fn without_item(self, alloc: Global, place: usize) -> Result<Sequence, AllocError>
+        requires { place < length (listed self.items) }
+        ensures { IfOk result (λ made. listed made.items ≡ remove (listed self.items) place) }
+    {
+        let mut tree = self.into_tree();
+        tree.remove(alloc, place)?;
         Ok(Sequence::of(tree))
     }
 

@@ -1,5 +1,6 @@
 // Trees of items, and trees with other items.
 ghost use Rattle.std.specs.Prelude.{◌≡◌, [], ◌∷◌, ◌++◌, ◌<◌, IfOk, length, drop, is_ok, slice_set, if◌then◌else◌};
+ghost use Rattle.std.specs.List.{remove};
 ghost use Rattle.value_data.specs.Inside.View.{view, views};
 
 use crate::changes::Change;
@@ -58,6 +59,16 @@ impl Tree {
             else self.old.items) }
     {
         self.change(alloc, place, Change::Replace(item))
+    }
+
+    // Takes the item at a place out.
+    pub(crate) fn remove(&mut self, alloc: Global, place: usize) -> Result<(), AllocError>
+        requires { place < length self.old.items }
+        ensures { self.new.items ≡ (if is_ok result
+            then remove self.old.items place
+            else self.old.items) }
+    {
+        self.change(alloc, place, Change::Remove)
     }
 
     // Takes out the first item, where there is one.

@@ -1,6 +1,6 @@
 // What a program computes with. Functions are no values: they are named by symbols.
-use crate::node_measures::{ItemsMeasure, PairsMeasure};
-use chunked_list::ChunkedList;
+use crate::node_measures::{ItemsMeasure, Peaks};
+use chunked_list::RankedPlaces;
 use std::marker::Model;
 use std::sync::{Arc, ArcStr};
 
@@ -115,14 +115,41 @@ impl Model for Sequence {
     ghost size_decreases = { λ a h. shape-falls a.node.value.shape };
 }
 
-// Pairs in the order in which they were put in, with their places in the order of their keys and
-// what was measured of them once.
+// Pairs in the order in which they were put in: their keys, and at the same places their values.
+#[cycle(value)]
+#[derive(Debug, Drop)]
+pub(crate) struct Entries {
+    pub(crate) keys: Sequence,
+    pub(crate) values: Sequence,
+}
+
+impl Model for Entries {
+    ghost use Rattle.value_data.specs.Inside.Held.{EntriesData, entries_code};
+
+    ghost Value = { EntriesData };
+
+    ghost coded = { entries_code };
+
+    ghost use Rattle.value_data.specs.Inside.Nodes.{seen_entries, AreEven};
+
+    ghost view = { λ a. seen_entries a.keys a.values };
+
+    ghost invariant = { λ a. AreEven a.keys a.values };
+
+    ghost size = { λ e. e.held };
+
+    ghost use Rattle.value_data.specs.Inside.Falls.{entries-fall};
+
+    ghost size_decreases = { λ a h. entries-fall a };
+}
+
+// Pairs with their places in the order of their keys and what their hash is made of.
 #[cycle(value)]
 #[derive(Debug, Drop)]
 pub(crate) struct PairsNode {
-    pub(crate) pairs: Vec<(Value, Value)>,
-    pub(crate) index: ChunkedList,
-    pub(crate) measure: PairsMeasure,
+    pub(crate) entries: Entries,
+    pub(crate) index: RankedPlaces,
+    pub(crate) peaks: Peaks,
 }
 
 /// The pairs of a map: one node, which many values may share. No two keys are equal.
@@ -150,5 +177,5 @@ impl Model for Table {
 
     ghost use Rattle.value_data.specs.Inside.Falls.{pairs-fall};
 
-    ghost size_decreases = { λ a h. pairs-fall a.node.value.pairs.items };
+    ghost size_decreases = { λ a h. pairs-fall a.node.value.entries };
 }

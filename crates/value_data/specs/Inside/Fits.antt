@@ -1,12 +1,11 @@
--- A measure that was taken of items or of pairs.
+-- A measure that was taken of items, and the peaks of pairs.
 use Rattle.std.specs.Prelude.{◌≡◌, List}
 use Rattle.value_data.specs.Datum.{Datum, Pairs}
 use Rattle.value_data.specs.Listed.{items_of}
 use Rattle.value_data.specs.Measures.{capped, items_weight, items_nesting, are_plain}
-use Rattle.value_data.specs.Measures.{pairs_weight, pairs_nesting, pairs_are_plain}
 use Rattle.value_data.specs.Inside.Hash.{factor, addend, peak}
 use Rattle.value_data.specs.declared.node_measures.ItemsMeasure.{ItemsMeasure}
-use Rattle.value_data.specs.declared.node_measures.PairsMeasure.{PairsMeasure}
+use Rattle.value_data.specs.declared.node_measures.Peaks.{Peaks}
 
 pub record FitsItems (m : ItemsMeasure) (ds : List Datum) : Type 0 where
   pub weighed : m.weight ≡ capped (items_weight (items_of ds))
@@ -16,10 +15,7 @@ pub record FitsItems (m : ItemsMeasure) (ds : List Datum) : Type 0 where
   pub added : m.addend ≡ addend ds
 
 -- a map's hash is made of its size and these four
-pub record FitsPairs (m : PairsMeasure) (ps : Pairs) : Type 0 where
-  pub weighed : m.weight ≡ capped (pairs_weight ps)
-  pub nested : m.nesting ≡ capped (pairs_nesting ps)
-  pub all_plain : m.plain ≡ pairs_are_plain ps
+pub record FitsPeaks (m : Peaks) (ps : Pairs) : Type 0 where
   pub first : m.first ≡ peak 0xD6E8FEB86659FD93 ps
   pub second : m.second ≡ peak 0x2917014799A6026D ps
   pub third : m.third ≡ peak 0xBF58476D1CE4E5B9 ps

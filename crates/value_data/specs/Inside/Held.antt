@@ -13,6 +13,10 @@ pub record SequenceData : Type 0 where
   pub items : Items
   pub held : ℕ
 
+pub record EntriesData : Type 0 where
+  pub listed : List (Datum × Datum)
+  pub held : ℕ
+
 pub record TableData : Type 0 where
   pub pairs : Pairs
   pub held : ℕ
@@ -26,6 +30,12 @@ abbrev pub sequence_code : Coded SequenceData
 sequence_code =
     code_by (Items × ℕ) (coded× items_code coded_ℕ) (λ s. (s.items, s.held))
     (λ p. record { items = p.0; held = p.1 }) (λ _. refl)
+
+abbrev pub entries_code : Coded EntriesData
+entries_code =
+    code_by (List (Datum × Datum) × ℕ)
+    (coded× (coded_list (coded× datum_code datum_code)) coded_ℕ) (λ e. (e.listed, e.held))
+    (λ p. record { listed = p.0; held = p.1 }) (λ _. refl)
 
 abbrev pub table_code : Coded TableData
 table_code =

@@ -27,6 +27,10 @@ pub record Indexes (places : List ℕ) (ps : Pairs) : Type 0 where
   pub ascending : (i j : ℕ) → i < j → j < length places
       → order (key_at ps (slice_index_or places i 0)) (key_at ps (slice_index_or places j 0)) ≡ Less
 
+-- this place stands at this rank
+abbrev pub IsRanked : ℕ → ℕ → List ℕ → Type 0
+IsRanked rank place places = (rank < length places) × (place ≡ slice_index_or places rank 0)
+
 -- No key is equal, and the place of this key belongs at the rank.
 pub record Belongs (rank : ℕ) (places : List ℕ) (ps : Pairs) (d : Datum) : Type 0 where
   pub absent : first_place ps d ≡ None

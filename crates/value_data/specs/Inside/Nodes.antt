@@ -1,12 +1,15 @@
 -- What the nodes hold, and what they keep of it.
 use Rattle.std.specs.Prelude.{◌≡◌, ℕ, ◌+◌, ◌<◌, ◌^◌, true, List, [], ◌∷◌, ◌++◌, length}
-use Rattle.value_data.specs.Datum.{Datum}
-use Rattle.value_data.specs.Listed.{items_of}
-use Rattle.value_data.specs.Inside.Held.{TreeData, SequenceData, TableData}
-use Rattle.value_data.specs.Inside.View.{views, pairs_view}
+use Rattle.value_data.specs.Datum.{Datum, Pairs}
+use Rattle.std.specs.List.{zip}
+use Rattle.value_data.specs.Listed.{listed, items_of, pairs_of}
+use Rattle.value_data.specs.Inside.Held.{TreeData, SequenceData, EntriesData, TableData}
+use Rattle.value_data.specs.Inside.View.{views}
 use Rattle.value_data.specs.Inside.Placed.{are_distinct}
 use Rattle.value_data.specs.Inside.Index.{Indexes}
-use Rattle.value_data.specs.Inside.Fits.{FitsItems, FitsPairs}
+use Rattle.value_data.specs.Inside.Fits.{FitsItems, FitsPeaks}
+use Rattle.value_data.specs.Inside.Seen.{MayFit}
+use Rattle.value_data.specs.declared.edits.Edited.{Edited}
 use Rattle.value_data.specs.declared.value.Value.{Value}
 use Rattle.value_data.specs.declared.value.Shape.{Shape}
 use Rattle.value_data.specs.declared.value.ItemsNode.{ItemsNode}
@@ -22,10 +25,6 @@ held_count _ = 1
 abbrev pub items_held : List Value → ℕ
 items_held [] = 0
 items_held (v ∷ vs) = held_count v + items_held vs
-
-abbrev pub pairs_held : List (Value × Value) → ℕ
-pairs_held [] = 0
-pairs_held (p ∷ ps) = held_count p.0 + held_count p.1 + pairs_held ps
 
 abbrev pub held : Shape → ℕ
 held (Shape.Leaf v) = items_held v.items
@@ -49,10 +48,29 @@ pub record KeepsItems (n : ItemsNode) : Type 0 where
   pub measured : FitsItems n.measure (shown n.shape)
   pub bounded : n.len < 2 ^ 63
 
+-- each key beside its value
+abbrev pub seen_entries : SequenceData → SequenceData → EntriesData
+seen_entries ks vs = record {
+  listed = zip (listed ks.items) (listed vs.items);
+  held = 1 + ks.held + vs.held;
+}
+
+abbrev pub AreEven : SequenceData → SequenceData → Type 0
+AreEven ks vs = length (listed vs.items) ≡ length (listed ks.items)
+
+abbrev pub entry_pairs : EntriesData → Pairs
+entry_pairs e = pairs_of e.listed
+
 abbrev pub seen_pairs : PairsNode → TableData
-seen_pairs n = record { pairs = pairs_view n.pairs.items; held = pairs_held n.pairs.items }
+seen_pairs n = record { pairs = entry_pairs n.entries; held = 1 + n.entries.held }
 
 pub record KeepsPairs (n : PairsNode) : Type 0 where
-  pub measured : FitsPairs n.measure (pairs_view n.pairs.items)
-  pub distinct : are_distinct (pairs_view n.pairs.items) ≡ true
-  pub indexed : Indexes n.index (pairs_view n.pairs.items)
+  pub peaked : FitsPeaks n.peaks (entry_pairs n.entries)
+  pub distinct : are_distinct (entry_pairs n.entries) ≡ true
+  pub indexed : Indexes n.index (entry_pairs n.entries)
+
+-- the same of pairs that are being changed
+pub record KeepsEdited (e : Edited) : Type 0 where
+  pub peaked : MayFit e.peaks (entry_pairs e.entries)
+  pub distinct : are_distinct (entry_pairs e.entries) ≡ true
+  pub indexed : Indexes e.index (entry_pairs e.entries)

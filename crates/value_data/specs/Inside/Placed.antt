@@ -22,6 +22,12 @@ StandsAt no_pairs n key value = ⊥
 StandsAt (pair k v ps) zero key value = (k ≡ key) × (v ≡ value)
 StandsAt (pair k v ps) (suc n) key value = StandsAt ps n key value
 
+-- the pairs without that at the place
+abbrev pub without_at : ℕ → Pairs → Pairs
+without_at n no_pairs = no_pairs
+without_at zero (pair k v ps) = ps
+without_at (suc n) (pair k v ps) = pair k v (without_at n ps)
+
 -- the pairs with another value at the place
 abbrev pub with_value : ℕ → Datum → Pairs → Pairs
 with_value n value no_pairs = no_pairs

@@ -1,26 +1,11 @@
-use Rattle.std.proofs.Common.{◌≡◌, ◌<◌, ◌≤◌, ◌∷◌, arith, rules, ap, codes, length, List, string_bytes}
+use Rattle.std.proofs.Common.{◌≡◌, ◌<◌, ◌≤◌, ◌++◌, append_assoc, arith, rules, codes, length, string_bytes}
 use Rattle.value_data.specs.Listed.{listed}
-use Rattle.value_data.specs.Inside.View.{view, pairs_view}
+use Rattle.value_data.specs.Same.{size}
+use Rattle.value_data.specs.Inside.View.{view}
 use Rattle.repl_values.specs.Inside.Style.{spelling_of}
-use Rattle.repl_values.proofs.Joining.{joined-whole}
-use Rattle.value_data.proofs.Size.{pairs_nodes}
-use Rattle.value_data.specs.declared.value.Value.{Value}
-use Rattle.value_data.proofs.Nodes.{pair_nodes-in}
+use Rattle.repl_values.proofs.Joining.{joined-whole, joined-next, joined-pairs, pair_spelled}
+use Rattle.repl_values.proofs.Places.{row-place}
 use Rattle.repl_values.proofs.print.+spell.Goals as goal
-
-pub spell_pairs-spell-requires-in-loop-key : goal.spell_pairs-spell-requires-in-loop-key
-spell_pairs-spell-requires-in-loop-key t c = (
-    let inside = pair_nodes-in c.in-Some.rest.now c.loop-key.key-index c.loop-key-item.result c.loop-key-item.is c.loop-key-test.true in
-    let whole : pairs_nodes (pairs_view c.args.pairs.now) ≡ pairs_nodes (pairs_view (c.in-Some.field-0-0.now ∷ c.in-Some.rest.now)) =
-    ap (λ (xs : List (Value × Value)). pairs_nodes (pairs_view xs)) c.in-Some.ensures.cases.0 in
-    (omega (arith, inside, whole, c.decreases), tt))
-
-pub spell_pairs-spell-requires-in-loop-key-2 : goal.spell_pairs-spell-requires-in-loop-key-2
-spell_pairs-spell-requires-in-loop-key-2 t c = (
-    let inside = pair_nodes-in c.in-Some.rest.now c.loop-key.key-index c.loop-key-item.result c.loop-key-item.is c.loop-key-test.true in
-    let whole : pairs_nodes (pairs_view c.args.pairs.now) ≡ pairs_nodes (pairs_view (c.in-Some.field-0-0.now ∷ c.in-Some.rest.now)) =
-    ap (λ (xs : List (Value × Value)). pairs_nodes (pairs_view xs)) c.in-Some.ensures.cases.0 in
-    (omega (arith, inside, whole, c.decreases), tt))
 
 pub spell_items-returns : goal.spell_items-returns
 spell_items-returns t c =
@@ -28,3 +13,25 @@ spell_items-returns t c =
     let all : length (listed c.args.items.now.items) ≤ c.loop-place.place = omega (arith, c.len-place-end.ensures.count, c.loop-place-test.false) in
     joined-whole (spelling_of c.args.strings) (codes " ") c.args.items.now.items (view c.at.result.now) c.loop-place.place (string_bytes c.args.out.now)
     (string_bytes c.spell.new.out) (string_bytes c.loop-place.out) c.at.ensures some all c.in_ok-spell.ensures c.loop-place.invariant
+
+pub spell_pairs-loop-place-preserved : goal.spell_pairs-loop-place-preserved
+spell_pairs-loop-place-preserved t c =
+    let place = c.loop-place.place in
+    let key = row-place c.keys-keys.result.now.items _ place (view c.at-in-loop-place.result.now) c.keys-keys.ensures c.at-in-loop-place.ensures in
+    let value = row-place c.values-values.result.now.items _ place (view c.at-in-loop-place-2.result.now) c.values-values.ensures c.at-in-loop-place-2.ensures in
+    let within : place < size c.args.pairs.now.pairs = omega (arith, c.len-place-end.ensures.count, c.loop-place-test.true) in
+    let more : string_bytes c.spell-in-loop-place-2.new.out ≡ string_bytes c.loop-place.out
+    ++ (codes ", " ++ pair_spelled (spelling_of c.args.strings) (codes ", ") (view c.at-in-loop-place.result.now) (view c.at-in-loop-place-2.result.now)) = search (rules, append_assoc) in
+    joined-next (spelling_of c.args.strings) (codes ", ") c.args.pairs.now.pairs (view c.at-in-loop-place.result.now) (view c.at-in-loop-place-2.result.now) place
+    (string_bytes c.loop-place.out) (string_bytes c.spell-in-loop-place-2.new.out) _ key value within more c.loop-place.invariant
+
+pub spell_pairs-returns : goal.spell_pairs-returns
+spell_pairs-returns t c =
+    let key = row-place c.keys-keys.result.now.items _ 0 (view c.at.result.now) c.keys-keys.ensures c.at.ensures in
+    let value = row-place c.values-values.result.now.items _ 0 (view c.at-2.result.now) c.values-values.ensures c.at-2.ensures in
+    let some : 0 < size c.args.pairs.now.pairs = search rules in
+    let all : size c.args.pairs.now.pairs ≤ c.loop-place.place = omega (arith, c.len-place-end.ensures.count, c.loop-place-test.false) in
+    let begun : string_bytes c.spell-2.new.out ≡ string_bytes c.args.out.now
+    ++ pair_spelled (spelling_of c.args.strings) (codes ", ") (view c.at.result.now) (view c.at-2.result.now) = search (rules, append_assoc) in
+    joined-pairs (spelling_of c.args.strings) (codes ", ") c.args.pairs.now.pairs (view c.at.result.now) (view c.at-2.result.now) c.loop-place.place
+    (string_bytes c.args.out.now) (string_bytes c.spell-2.new.out) (string_bytes c.loop-place.out) key value some all begun c.loop-place.invariant

@@ -1,6 +1,6 @@
 use Rattle.std.proofs.Common.{◌≡◌, ◌+◌, ◌*◌, ◌-◌, ◌≤◌, take, map as each}
 use Rattle.value_data.specs.Listed.{listed}
-use Rattle.value_data.specs.Inside.View.{view, pair_view, items_view, pairs_view}
+use Rattle.value_data.specs.Inside.View.{view, items_view}
 use Rattle.value_data.proofs.Size.{nodes, items_nodes, pairs_nodes}
 use Rattle.trace_comparison.proofs.values.+same_value.Given as goal
 
@@ -17,13 +17,7 @@ abbrev pub decreases-same_chunks : goal.decreases-same_chunks
 decreases-same_chunks l = 8 * items_nodes (items_view l.left.now) + 1
 
 abbrev pub decreases-same_table : goal.decreases-same_table
-decreases-same_table l = 8 * pairs_nodes l.left.now.pairs + 3
-
-abbrev pub decreases-same_pairs : goal.decreases-same_pairs
-decreases-same_pairs l = 8 * pairs_nodes (pairs_view l.left.now) + 2
-
-abbrev pub decreases-same_pair : goal.decreases-same_pair
-decreases-same_pair l = 8 * (nodes (view l.left.now.0) + nodes (view l.left.now.1)) + 1
+decreases-same_table l = 8 * pairs_nodes l.left.now.pairs + 4
 
 abbrev pub invariant-same_items-loop-place : goal.invariant-same_items-loop-place
 invariant-same_items-loop-place l = record {
@@ -36,6 +30,3 @@ decreases-same_items-loop-place l = l.count - l.place
 
 abbrev pub invariant-same_chunks-loop-place : goal.invariant-same_chunks-loop-place
 invariant-same_chunks-loop-place l = take l.place (each view l.left) ≡ take l.place (each view l.right)
-
-abbrev pub invariant-same_pairs-loop-place : goal.invariant-same_pairs-loop-place
-invariant-same_pairs-loop-place l = take l.place (each pair_view l.left) ≡ take l.place (each pair_view l.right)

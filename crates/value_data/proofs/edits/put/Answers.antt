@@ -1,77 +1,87 @@
-use Rattle.std.proofs.Common.{◌≡◌, List, Some, None, length, ap, sym, subst, ◌∙◌}
-use Rattle.value_data.specs.Datum.{Datum, Pairs}
-use Rattle.value_data.specs.Inside.View.{view, pairs_view}
-use Rattle.value_data.specs.Inside.Placed.{first_place, with_value}
-use Rattle.value_data.specs.Inside.Seen.{MayFit}
-use Rattle.value_data.specs.declared.value.Value.{Value}
-use Rattle.value_data.proofs.Sameness.{size-pairs_view}
+use Rattle.std.proofs.Common.{◌≡◌, ◌<◌, length, sym, subst, ap, ◌∙◌, arith}
+use Rattle.value_data.specs.Datum.{Pairs}
+use Rattle.value_data.specs.Inside.Held.{EntriesData}
+use Rattle.value_data.specs.Inside.View.{view}
+use Rattle.value_data.specs.Inside.Nodes.{seen_entries, entry_pairs}
+use Rattle.value_data.specs.Inside.Placed.{with_value}
+use Rattle.value_data.specs.Keyed.{behind_all}
+use Rattle.value_data.specs.Inside.Seen.{MayFit, entry_view}
 use Rattle.value_data.proofs.Editing.{first_place-within, pushed-is, found-put, found-distinct}
-use Rattle.value_data.proofs.Editing.{new-put, new-distinct}
+use Rattle.value_data.proofs.Editing.{new-put, new-distinct, replaced-is}
 use Rattle.value_data.proofs.Replacing.{stands-at}
 use Rattle.value_data.proofs.Searching.{found-indexes, noted}
-use Rattle.value_data.specs.Inside.Index.{Belongs}
 use Rattle.value_data.proofs.edits.put.Goals as goal
 
-pub returns-in_ok-copy-in-Ok-clause-put : goal.returns-in_ok-copy-in-Ok-clause-put
-returns-in_ok-copy-in-Ok-clause-put c =
-    let ps = pairs_view c.args.pairs.now.items in
+pub pair-requires : goal.pair-requires
+pair-requires c = first_place-within c.args.edited.entries.listed (view c.args.key.now) c.in-Ok.found.place c.in-Ok.ensures.found
+
+pub with_value-requires : goal.with_value-requires
+with_value-requires c =
+    omega (
+      arith,
+      first_place-within c.args.edited.entries.listed (view c.args.key.now) c.in-Ok.found.place c.in-Ok.ensures.found,
+      ap (λ (e : EntriesData). length e.listed) c.entries.view_is,
+    )
+
+pub returns-in_ok-with_value-in-Ok-clause-put : goal.returns-in_ok-with_value-in-Ok-clause-put
+returns-in_ok-with_value-in-Ok-clause-put c =
+    let ps = entry_pairs c.args.edited.entries in
     let key = view c.args.key.now in
-    let placed : first_place ps key ≡ Some c.in-Ok.place =
-    sym (ap (λ (xs : List (Value × Value)). first_place (pairs_view xs) key) c.as_slice.ensures.value) ∙ c.in-Ok.ensures.found in
-    found-put ps (pairs_view c.set_value.new.all.items) key (view c.args.value.now) c.in-Ok.place placed
-    (c.set_value.ensures ∙ ap (λ (d : Datum). with_value c.in-Ok.place d ps) c.in_ok-copy-in-Ok.ensures)
+    let inside : EntriesData = seen_entries c.entries.inside.keys c.entries.inside.values in
+    let within : c.in-Ok.found.place < length inside.listed =
+    omega (arith, first_place-within c.args.edited.entries.listed key c.in-Ok.found.place c.in-Ok.ensures.found, ap (λ (e : EntriesData). length e.listed) c.entries.view_is) in
+    let replaced : entry_pairs c.in_ok-with_value-in-Ok.field-0 ≡ with_value c.in-Ok.found.place (view c.args.value.now) ps =
+    replaced-is inside.listed c.in_ok-with_value-in-Ok.field-0.listed c.in-Ok.found.place key (view c.in_ok-copy-in-Ok.field-0) (view c.args.value.now) c.in_ok-copy-in-Ok.ensures within
+    (c.in_ok-with_value-in-Ok.ensures key)
+    ∙ ap (λ (e : EntriesData). with_value c.in-Ok.found.place (view c.args.value.now) (entry_pairs e)) c.entries.view_is in
+    found-put ps (entry_pairs c.in_ok-with_value-in-Ok.field-0) key (view c.args.value.now) c.in-Ok.found.place c.in-Ok.ensures.found replaced
 
-pub returns-in_ok-copy-in-Ok-clause-distinct : goal.returns-in_ok-copy-in-Ok-clause-distinct
-returns-in_ok-copy-in-Ok-clause-distinct c =
-    found-distinct (pairs_view c.args.pairs.now.items) (pairs_view c.set_value.new.all.items) c.in-Ok.place (view c.in_ok-copy-in-Ok.field-0) c.set_value.ensures c.requires.distinct
-
-pub returns-in_ok-copy-in-Ok-clause-indexed : goal.returns-in_ok-copy-in-Ok-clause-indexed
-returns-in_ok-copy-in-Ok-clause-indexed c =
-    found-indexes c.args.index.now (pairs_view c.args.pairs.now.items) (pairs_view c.set_value.new.all.items) c.in-Ok.place (view c.in_ok-copy-in-Ok.field-0) c.set_value.ensures c.requires.indexed
-
-pub returns-in_ok-push-in-Err-clause-put : goal.returns-in_ok-push-in-Err-clause-put
-returns-in_ok-push-in-Err-clause-put c =
-    let ps = pairs_view c.args.pairs.now.items in
+pub returns-in_ok-with_value-in-Ok-clause-keeps : goal.returns-in_ok-with_value-in-Ok-clause-keeps
+returns-in_ok-with_value-in-Ok-clause-keeps c =
+    let ps = entry_pairs c.args.edited.entries in
     let key = view c.args.key.now in
-    let placed : first_place ps key ≡ None =
-    sym (ap (λ (xs : List (Value × Value)). first_place (pairs_view xs) key) c.as_slice.ensures.value) ∙ c.in-Err.ensures.new.absent in
-    new-put ps (pairs_view c.push.new.self.items) key (view c.args.value.now) placed
-    (pushed-is c.args.pairs.now.items c.push.new.self.items c.in_ok-copy-in-Err.field-0 c.in_ok-copy-in-Err-2.field-0 key (view c.args.value.now) c.in_ok-copy-in-Err.ensures c.in_ok-copy-in-Err-2.ensures c.in_ok-push-in-Err.ensures.items)
+    let inside : EntriesData = seen_entries c.entries.inside.keys c.entries.inside.values in
+    let within : c.in-Ok.found.place < length inside.listed =
+    omega (arith, first_place-within c.args.edited.entries.listed key c.in-Ok.found.place c.in-Ok.ensures.found, ap (λ (e : EntriesData). length e.listed) c.entries.view_is) in
+    let replaced : entry_pairs c.in_ok-with_value-in-Ok.field-0 ≡ with_value c.in-Ok.found.place (view c.args.value.now) ps =
+    replaced-is inside.listed c.in_ok-with_value-in-Ok.field-0.listed c.in-Ok.found.place key (view c.in_ok-copy-in-Ok.field-0) (view c.args.value.now) c.in_ok-copy-in-Ok.ensures within
+    (c.in_ok-with_value-in-Ok.ensures key)
+    ∙ ap (λ (e : EntriesData). with_value c.in-Ok.found.place (view c.args.value.now) (entry_pairs e)) c.entries.view_is in
+    record {
+      peaked =
+          subst (λ (qs : Pairs). MayFit c.peaks_with_value.result qs)
+          (sym replaced)
+          (c.peaks_with_value.ensures ps c.in-Ok.found.place c.requires.peaked
+          (stands-at c.args.edited.entries.listed c.in-Ok.found.place (entry_view c.pair.result) c.pair.ensures
+          (first_place-within c.args.edited.entries.listed key c.in-Ok.found.place c.in-Ok.ensures.found)));
+      distinct = found-distinct ps (entry_pairs c.in_ok-with_value-in-Ok.field-0) c.in-Ok.found.place (view c.args.value.now) replaced c.requires.distinct;
+      indexed = found-indexes c.args.edited.index ps (entry_pairs c.in_ok-with_value-in-Ok.field-0) c.in-Ok.found.place (view c.args.value.now) replaced c.requires.indexed;
+    }
 
-pub returns-in_ok-push-in-Err-clause-distinct : goal.returns-in_ok-push-in-Err-clause-distinct
-returns-in_ok-push-in-Err-clause-distinct c =
-    let ps = pairs_view c.args.pairs.now.items in
+pub returns-in_ok-with_pair-in-Err-clause-put : goal.returns-in_ok-with_pair-in-Err-clause-put
+returns-in_ok-with_pair-in-Err-clause-put c =
+    let ps = entry_pairs c.args.edited.entries in
     let key = view c.args.key.now in
-    let placed : first_place ps key ≡ None =
-    sym (ap (λ (xs : List (Value × Value)). first_place (pairs_view xs) key) c.as_slice.ensures.value) ∙ c.in-Err.ensures.new.absent in
-    new-distinct ps (pairs_view c.push.new.self.items) key (view c.args.value.now) placed
-    (pushed-is c.args.pairs.now.items c.push.new.self.items c.in_ok-copy-in-Err.field-0 c.in_ok-copy-in-Err-2.field-0 key (view c.args.value.now) c.in_ok-copy-in-Err.ensures c.in_ok-copy-in-Err-2.ensures c.in_ok-push-in-Err.ensures.items)
-    c.requires.distinct
+    let inside : EntriesData = seen_entries c.entries.inside.keys c.entries.inside.values in
+    let pushed : entry_pairs c.in_ok-with_pair-in-Err.field-0 ≡ behind_all ps key (view c.args.value.now) =
+    pushed-is inside.listed c.in_ok-with_pair-in-Err.field-0.listed (view c.in_ok-copy-in-Err.field-0) (view c.in_ok-copy-in-Err-2.field-0) key (view c.args.value.now)
+    c.in_ok-copy-in-Err.ensures c.in_ok-copy-in-Err-2.ensures c.in_ok-with_pair-in-Err.ensures
+    ∙ ap (λ (e : EntriesData). behind_all (entry_pairs e) key (view c.args.value.now)) c.entries.view_is in
+    new-put ps (entry_pairs c.in_ok-with_pair-in-Err.field-0) key (view c.args.value.now) c.in-Err.ensures.new.absent pushed
 
-pub returns-in_ok-push-in-Err-clause-indexed : goal.returns-in_ok-push-in-Err-clause-indexed
-returns-in_ok-push-in-Err-clause-indexed c =
-    let ps = pairs_view c.args.pairs.now.items in
+pub returns-in_ok-with_pair-in-Err-clause-keeps : goal.returns-in_ok-with_pair-in-Err-clause-keeps
+returns-in_ok-with_pair-in-Err-clause-keeps c =
+    let ps = entry_pairs c.args.edited.entries in
     let key = view c.args.key.now in
-    let sized = ap (λ (xs : List (Value × Value)). length xs) c.as_slice-in-Err.ensures.value ∙ sym (size-pairs_view c.args.pairs.now.items) in
-    let belongs : Belongs c.in-Err.rank c.args.index.now ps key =
-    subst (λ (xs : List (Value × Value)). Belongs c.in-Err.rank c.args.index.now (pairs_view xs) key) c.as_slice.ensures.value c.in-Err.ensures.new in
-    noted c.args.index.now c.insert.new.self ps (pairs_view c.push.new.self.items) key (view c.args.value.now) c.in-Err.rank _
-    (pushed-is c.args.pairs.now.items c.push.new.self.items c.in_ok-copy-in-Err.field-0 c.in_ok-copy-in-Err-2.field-0 key (view c.args.value.now) c.in_ok-copy-in-Err.ensures c.in_ok-copy-in-Err-2.ensures c.in_ok-push-in-Err.ensures.items)
-    c.in_ok-insert-in-Err.ensures.inserted sized c.requires.indexed belongs
-
-pub returns-in_ok-push-in-Err-clause-measured : goal.returns-in_ok-push-in-Err-clause-measured
-returns-in_ok-push-in-Err-clause-measured c =
-    subst (λ (qs : Pairs). MayFit c.with_pair.result qs)
-    (sym (pushed-is c.args.pairs.now.items c.push.new.self.items c.in_ok-copy-in-Err.field-0 c.in_ok-copy-in-Err-2.field-0 (view c.args.key.now) (view c.args.value.now) c.in_ok-copy-in-Err.ensures c.in_ok-copy-in-Err-2.ensures c.in_ok-push-in-Err.ensures.items))
-    (c.with_pair.ensures (pairs_view c.args.pairs.now.items) c.requires.measured)
-
-pub returns-in_ok-copy-in-Ok-clause-measured : goal.returns-in_ok-copy-in-Ok-clause-measured
-returns-in_ok-copy-in-Ok-clause-measured c =
-    let ps = pairs_view c.args.pairs.now.items in
-    let key = view c.args.key.now in
-    let placed : first_place ps key ≡ Some c.in-Ok.place =
-    sym (ap (λ (xs : List (Value × Value)). first_place (pairs_view xs) key) c.as_slice.ensures.value) ∙ c.in-Ok.ensures.found in
-    subst (λ (qs : Pairs). MayFit c.measure_with_value-measure.result qs)
-    (sym (c.set_value.ensures ∙ ap (λ (d : Datum). with_value c.in-Ok.place d ps) c.in_ok-copy-in-Ok.ensures))
-    (c.measure_with_value-measure.ensures ps c.in-Ok.place c.requires.measured
-    (stands-at c.args.pairs.now.items c.in-Ok.place c.index.result.now c.index.ensures (first_place-within c.args.pairs.now.items key c.in-Ok.place placed)))
+    let inside : EntriesData = seen_entries c.entries.inside.keys c.entries.inside.values in
+    let pushed : entry_pairs c.in_ok-with_pair-in-Err.field-0 ≡ behind_all ps key (view c.args.value.now) =
+    pushed-is inside.listed c.in_ok-with_pair-in-Err.field-0.listed (view c.in_ok-copy-in-Err.field-0) (view c.in_ok-copy-in-Err-2.field-0) key (view c.args.value.now)
+    c.in_ok-copy-in-Err.ensures c.in_ok-copy-in-Err-2.ensures c.in_ok-with_pair-in-Err.ensures
+    ∙ ap (λ (e : EntriesData). behind_all (entry_pairs e) key (view c.args.value.now)) c.entries.view_is in
+    record {
+      peaked = subst (λ (qs : Pairs). MayFit c.with_pair-in-Err.result qs) (sym pushed) (c.with_pair-in-Err.ensures ps c.requires.peaked);
+      distinct = new-distinct ps (entry_pairs c.in_ok-with_pair-in-Err.field-0) key (view c.args.value.now) c.in-Err.ensures.new.absent pushed c.requires.distinct;
+      indexed =
+          noted c.args.edited.index c.in_ok-with_next-in-Err.field-0 ps (entry_pairs c.in_ok-with_pair-in-Err.field-0) key (view c.args.value.now) c.in-Err.rank (length c.args.edited.index)
+          pushed c.in_ok-with_next-in-Err.ensures c.requires.indexed.counted c.requires.indexed c.in-Err.ensures.new;
+    }

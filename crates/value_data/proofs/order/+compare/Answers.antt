@@ -1,13 +1,15 @@
-use Rattle.std.proofs.Common.{◌≡◌, ℕ, suc, ◌+◌, false, List, length, drop, nat_cmp, refl, sym, ap, ◌∙◌, add-one, arith}
+use Rattle.std.proofs.Common.{◌≡◌, ℕ, suc, ◌+◌, false, length, drop, nat_cmp, refl, sym, ap, ◌∙◌, add-one, arith}
 use Rattle.std.specs.Arc.{arc_value}
 use Rattle.std.specs.Ordering.{is_ne, ordering_then}
 use Rattle.value_data.specs.Datum.{map}
 use Rattle.value_data.specs.Inside.Held.{TableData}
 use Rattle.value_data.proofs.Size.{pairs_nodes}
-use Rattle.value_data.proofs.Sameness.{size-pairs_view}
+use Rattle.value_data.proofs.Sameness.{size-pairs_of}
 use Rattle.value_data.specs.Same.{size}
 use Rattle.value_data.specs.Inside.Hash.{hash}
-use Rattle.value_data.specs.Inside.View.{view, pairs_view}
+use Rattle.value_data.specs.Inside.View.{view}
+use Rattle.value_data.specs.Inside.Nodes.{entry_pairs}
+use Rattle.value_data.specs.Inside.Seen.{entry_view}
 use Rattle.value_data.specs.Inside.Order.{order, sort_key, chain, sorted, rows}
 use Rattle.value_data.specs.Inside.Index.{row_at, rows_at}
 use Rattle.value_data.specs.declared.value.PairsNode.{PairsNode}
@@ -102,20 +104,20 @@ pub compare_maps-compare_rows-requires : goal.compare_maps-compare_rows-requires
 compare_maps-compare_rows-requires t c =
     let l = c.args.left.now.pairs in
     let r = c.args.right.now.pairs in
-    let ours = c.deref-2.ensures.value ∙ ap (λ (n : PairsNode). n.pairs.items) c.deref.ensures in
-    let theirs = c.deref-5.ensures.value ∙ ap (λ (n : PairsNode). n.pairs.items) c.deref-4.ensures in
-    let left : pairs_view c.deref-2.result.now ≡ l = ap (λ (xs : List (Value × Value)). pairs_view xs) ours ∙ ap (λ (d : TableData). d.pairs) c.left.view_is in
-    let right : pairs_view c.deref-5.result.now ≡ r = ap (λ (xs : List (Value × Value)). pairs_view xs) theirs ∙ ap (λ (d : TableData). d.pairs) c.right.view_is in
+    let ours = ap (λ (n : PairsNode). n.entries) c.deref.ensures in
+    let theirs = ap (λ (n : PairsNode). n.entries) c.deref-3.ensures in
+    let left : entry_pairs c.deref.result.now.entries ≡ l = ap entry_pairs ours ∙ ap (λ (d : TableData). d.pairs) c.left.view_is in
+    let right : entry_pairs c.deref-3.result.now.entries ≡ r = ap entry_pairs theirs ∙ ap (λ (d : TableData). d.pairs) c.right.view_is in
     let sizes : c.cmp-2.result ≡ nat_cmp (size l) (size r) =
-    c.cmp-2.ensures ∙ ap (λ (n : ℕ). nat_cmp n c.len-2.result) c.len.ensures ∙ ap (λ (n : ℕ). nat_cmp (size l) n) c.len-2.ensures in
+    c.cmp-2.ensures ∙ ap (λ (n : ℕ). nat_cmp n c.len-2.result) c.len.ensures.count ∙ ap (λ (n : ℕ). nat_cmp (size l) n) c.len-2.ensures.count in
     let undecided : is_ne (ordering_then c.cmp.result c.cmp-2.result) ≡ false = ap is_ne (sym c.then-numbers.ensures) ∙ sym c.is_ne.ensures ∙ c.if-is_ne.false in
     let equal : size l ≡ size r = equal-numbers (size l) (size r) (sym sizes ∙ two-equal c.cmp.result c.cmp-2.result undecided) in (
       omega (arith, ap pairs_nodes left),
       (
-        node-within (arc_value c.left.inside.node) c.deref-2.result.now c.deref-3.result.now.index c.left.invariant ours (ap (λ (n : PairsNode). n.index) c.deref-3.ensures),
+        node-within (arc_value c.left.inside.node) c.deref.result.now.entries c.deref-2.result.now.index c.left.invariant ours (ap (λ (n : PairsNode). n.index) c.deref-2.ensures),
         (
-          node-within (arc_value c.right.inside.node) c.deref-5.result.now c.deref-6.result.now.index c.right.invariant theirs (ap (λ (n : PairsNode). n.index) c.deref-6.ensures),
-          omega (arith, equal, size-pairs_view c.deref-2.result.now, size-pairs_view c.deref-5.result.now, ap size left, ap size right),
+          node-within (arc_value c.right.inside.node) c.deref-3.result.now.entries c.deref-4.result.now.index c.right.invariant theirs (ap (λ (n : PairsNode). n.index) c.deref-4.ensures),
+          omega (arith, equal, size-pairs_of c.deref.result.now.entries.listed, size-pairs_of c.deref-3.result.now.entries.listed, ap size left, ap size right),
         ),
       ),
     )
@@ -127,15 +129,15 @@ compare_maps-returns t c =
     let hashes : c.cmp.result ≡ nat_cmp (hash (map l)) (hash (map r)) =
     c.cmp.ensures ∙ ap (λ (n : ℕ). nat_cmp n c.hash-2.result) c.hash.ensures ∙ ap (λ (n : ℕ). nat_cmp (hash (map l)) n) c.hash-2.ensures in
     let sizes : c.cmp-2.result ≡ nat_cmp (size l) (size r) =
-    c.cmp-2.ensures ∙ ap (λ (n : ℕ). nat_cmp n c.len-2.result) c.len.ensures ∙ ap (λ (n : ℕ). nat_cmp (size l) n) c.len-2.ensures in
+    c.cmp-2.ensures ∙ ap (λ (n : ℕ). nat_cmp n c.len-2.result) c.len.ensures.count ∙ ap (λ (n : ℕ). nat_cmp (size l) n) c.len-2.ensures.count in
     let ours =
-    node-rows (arc_value c.left.inside.node) c.args.left.now c.deref-2.result.now c.deref-3.result.now.index c.left.invariant c.left.view_is
-    (c.deref-2.ensures.value ∙ ap (λ (n : PairsNode). n.pairs.items) c.deref.ensures)
-    (ap (λ (n : PairsNode). n.index) c.deref-3.ensures) in
+    node-rows (arc_value c.left.inside.node) c.args.left.now c.deref.result.now.entries c.deref-2.result.now.index c.left.invariant c.left.view_is
+    (ap (λ (n : PairsNode). n.entries) c.deref.ensures)
+    (ap (λ (n : PairsNode). n.index) c.deref-2.ensures) in
     let theirs =
-    node-rows (arc_value c.right.inside.node) c.args.right.now c.deref-5.result.now c.deref-6.result.now.index c.right.invariant c.right.view_is
-    (c.deref-5.ensures.value ∙ ap (λ (n : PairsNode). n.pairs.items) c.deref-4.ensures)
-    (ap (λ (n : PairsNode). n.index) c.deref-6.ensures) in
+    node-rows (arc_value c.right.inside.node) c.args.right.now c.deref-3.result.now.entries c.deref-4.result.now.index c.right.invariant c.right.view_is
+    (ap (λ (n : PairsNode). n.entries) c.deref-3.ensures)
+    (ap (λ (n : PairsNode). n.index) c.deref-4.ensures) in
     two-open-at c.then-numbers.result (nat_cmp (hash (map l)) (hash (map r))) (nat_cmp (size l) (size r))
     (order (chain (sorted (rows l))) (chain (sorted (rows r)))) c.compare_rows.result
     (sym c.is_ne.ensures ∙ c.if-is_ne.false)
@@ -145,12 +147,12 @@ compare_maps-returns t c =
 pub compare_rows-returns-then-is_ne : goal.compare_rows-returns-then-is_ne
 compare_rows-returns-then-is_ne t c =
     let step =
-    rows-step c.args.left.now c.args.right.now c.args.left_index.now c.args.right_index.now c.loop-rank.rank c.at.result c.at-in-loop-rank.result c.index-left-at.result
-    c.index-right-at.result (omega (arith, c.loop-rank-test.true, c.requires.left.counted)) (omega (arith, c.loop-rank-test.true, c.requires.right.counted, c.requires.equal)) c.at.ensures
-    c.at-in-loop-rank.ensures c.index-left-at.is c.requires.left.within c.index-right-at.is c.requires.right.within in
+    rows-step c.args.left.now.listed c.args.right.now.listed c.args.left_index.now c.args.right_index.now c.loop-rank.rank c.at.result c.at-in-loop-rank.result (entry_view c.pair-ours.result)
+    (entry_view c.pair-theirs.result) (omega (arith, c.loop-rank-test.true, c.len-rank-end.ensures.count, c.requires.left.counted)) (omega (arith, c.loop-rank-test.true, c.len-rank-end.ensures.count, c.requires.right.counted, c.requires.equal)) c.at.ensures
+    c.at-in-loop-rank.ensures c.pair-ours.ensures c.requires.left.within c.pair-theirs.ensures c.requires.right.within in
     let rest =
-    order (rows_at (pairs_view c.args.left.now) (drop (suc c.loop-rank.rank) c.args.left_index.now))
-    (rows_at (pairs_view c.args.right.now) (drop (suc c.loop-rank.rank) c.args.right_index.now)) in
+    order (rows_at (entry_pairs c.args.left.now) (drop (suc c.loop-rank.rank) c.args.left_index.now))
+    (rows_at (entry_pairs c.args.right.now) (drop (suc c.loop-rank.rank) c.args.right_index.now)) in
     then-decided c.compare_pairs-compared.result _ rest (sym c.if-is_ne.true ∙ c.is_ne.ensures) c.compare_pairs-compared.ensures
     ∙ sym step
     ∙ c.loop-rank.invariant
@@ -158,12 +160,12 @@ compare_rows-returns-then-is_ne t c =
 pub compare_rows-loop-rank-preserved : goal.compare_rows-loop-rank-preserved
 compare_rows-loop-rank-preserved t c =
     let step =
-    rows-step c.args.left.now c.args.right.now c.args.left_index.now c.args.right_index.now c.loop-rank.rank c.at.result c.at-in-loop-rank.result c.index-left-at.result
-    c.index-right-at.result (omega (arith, c.loop-rank-test.true, c.requires.left.counted)) (omega (arith, c.loop-rank-test.true, c.requires.right.counted, c.requires.equal)) c.at.ensures
-    c.at-in-loop-rank.ensures c.index-left-at.is c.requires.left.within c.index-right-at.is c.requires.right.within in
+    rows-step c.args.left.now.listed c.args.right.now.listed c.args.left_index.now c.args.right_index.now c.loop-rank.rank c.at.result c.at-in-loop-rank.result (entry_view c.pair-ours.result)
+    (entry_view c.pair-theirs.result) (omega (arith, c.loop-rank-test.true, c.len-rank-end.ensures.count, c.requires.left.counted)) (omega (arith, c.loop-rank-test.true, c.len-rank-end.ensures.count, c.requires.right.counted, c.requires.equal)) c.at.ensures
+    c.at-in-loop-rank.ensures c.pair-ours.ensures c.requires.left.within c.pair-theirs.ensures c.requires.right.within in
     let rest =
-    order (rows_at (pairs_view c.args.left.now) (drop (suc c.loop-rank.rank) c.args.left_index.now))
-    (rows_at (pairs_view c.args.right.now) (drop (suc c.loop-rank.rank) c.args.right_index.now)) in
+    order (rows_at (entry_pairs c.args.left.now) (drop (suc c.loop-rank.rank) c.args.left_index.now))
+    (rows_at (entry_pairs c.args.right.now) (drop (suc c.loop-rank.rank) c.args.right_index.now)) in
     rw add-one
     (sym (then-open c.compare_pairs-compared.result _ rest (sym c.if-is_ne.false ∙ c.is_ne.ensures) c.compare_pairs-compared.ensures)
     ∙ sym step
@@ -171,6 +173,6 @@ compare_rows-loop-rank-preserved t c =
 
 pub compare_rows-returns : goal.compare_rows-returns
 compare_rows-returns t c =
-    chain-none (row_at (pairs_view c.args.left.now)) (row_at (pairs_view c.args.right.now)) c.args.left_index.now c.args.right_index.now c.loop-rank.rank
-    (omega (arith, c.loop-rank-test.false, c.requires.left.counted)) (omega (arith, c.loop-rank-test.false, c.requires.right.counted, c.requires.equal))
+    chain-none (row_at (entry_pairs c.args.left.now)) (row_at (entry_pairs c.args.right.now)) c.args.left_index.now c.args.right_index.now c.loop-rank.rank
+    (omega (arith, c.loop-rank-test.false, c.len-rank-end.ensures.count, c.requires.left.counted)) (omega (arith, c.loop-rank-test.false, c.len-rank-end.ensures.count, c.requires.right.counted, c.requires.equal))
     ∙ c.loop-rank.invariant

@@ -1,5 +1,6 @@
 use Rattle.std.proofs.Common.{◌≡◌, ◌+◌, ◌*◌, ◌-◌, ◌≤◌, drop, map as each}
-use Rattle.value_data.specs.Inside.View.{view, items_view, pairs_view}
+use Rattle.value_data.specs.Inside.View.{view, items_view}
+use Rattle.value_data.specs.Inside.Nodes.{entry_pairs}
 use Rattle.value_data.specs.Inside.Order.{order, chain, sort_key, items_sort_key}
 use Rattle.value_data.specs.Inside.Index.{rows_at}
 use Rattle.value_data.specs.Listed.{listed}
@@ -23,10 +24,10 @@ abbrev pub decreases-compare_maps : goal.decreases-compare_maps
 decreases-compare_maps l = 8 * pairs_nodes l.left.now.pairs + 3
 
 abbrev pub decreases-compare_rows : goal.decreases-compare_rows
-decreases-compare_rows l = 8 * pairs_nodes (pairs_view l.left.now) + 2
+decreases-compare_rows l = 8 * pairs_nodes (entry_pairs l.left.now) + 2
 
 abbrev pub decreases-compare_pairs : goal.decreases-compare_pairs
-decreases-compare_pairs l = 8 * (nodes (view l.left.now.0) + nodes (view l.left.now.1)) + 1
+decreases-compare_pairs l = 8 * (nodes (view l.left.0.now) + nodes (view l.left.1.now)) + 1
 
 abbrev pub invariant-compare_items-loop-place : goal.invariant-compare_items-loop-place
 invariant-compare_items-loop-place l = record {
@@ -45,5 +46,5 @@ invariant-compare_chunks-loop-place l =
 
 abbrev pub invariant-compare_rows-loop-rank : goal.invariant-compare_rows-loop-rank
 invariant-compare_rows-loop-rank l =
-    order (rows_at (pairs_view l.left) (drop l.rank l.left_index)) (rows_at (pairs_view l.right) (drop l.rank l.right_index))
-    ≡ order (rows_at (pairs_view l.left) l.left_index) (rows_at (pairs_view l.right) l.right_index)
+    order (rows_at (entry_pairs l.left) (drop l.rank l.left_index)) (rows_at (entry_pairs l.right) (drop l.rank l.right_index))
+    ≡ order (rows_at (entry_pairs l.left) l.left_index) (rows_at (entry_pairs l.right) l.right_index)
