@@ -68,6 +68,8 @@ use Rattle.journal_book.specs.contracts.entry.ResolvedSymbol as resolved_symbol
 use Rattle.journal_book.specs.contracts.entry.JournalEntry as entry
 use Rattle.paged_list.specs.contracts.pages.Pages as pages
 use Rattle.paged_list.specs.contracts.pages.Pages.TheInside as pages_inside
+use Rattle.paged_list.specs.contracts.paged_row.PagedRow as row
+use Rattle.paged_list.specs.contracts.paged_row.PagedRow.TheInside as row_inside
 use Rattle.bencode_wire.specs.contracts.decoder.Decoder as decoder
 use Rattle.repl_replies.specs.contracts.reply.Origin as origin
 use Rattle.tenant_parts.specs.contracts.request.ProgramText as program_text
@@ -99,7 +101,6 @@ use Rattle.repl_core.specs.contracts.machine.Machine as machine
 use Rattle.repl_core.specs.contracts.machine.Config as config
 use Rattle.repl_core.specs.contracts.machine.SharedText as shared_text
 use Rattle.journal_book.specs.contracts.book.Book as book
-use Rattle.slab.specs.contracts.Slab as slab
 use Rattle.tenant_asks.specs.contracts.cells.Cells as cells
 use Rattle.tenant_asks.specs.contracts.memory.Remembered as memory
 use Rattle.ref_history.specs.contracts.ring_ref.RingRef as ring_ref
@@ -109,6 +110,8 @@ use Rattle.version_rings.specs.contracts.nodes.Nodes as nodes
 use Rattle.version_rings.specs.contracts.node_list.NodeList as node_list
 use Rattle.version_rings.specs.contracts.node.Joint as joint
 use Rattle.version_rings.specs.contracts.node.Ring as ring
+use Rattle.version_rings.specs.contracts.ring_table.Slot as slot
+use Rattle.version_rings.specs.contracts.ring_table.RingTable as ring_table
 use Rattle.ref_table.specs.contracts.departed.Departed as departed
 use Rattle.ref_table.specs.contracts.directory.Directory as directory
 use Rattle.repl_core.specs.contracts.tenants.Tenants as tenants
@@ -622,8 +625,12 @@ cells-send = declared_send cells.the_type (atoms-send, (agents-send, tt))
 sessions-send : IsSend sessions.the_row
 sessions-send = search (sendable, crosses, maps.crosses, session_state-send) depth 40 fits 20000
 
-slab-send : (R : RattleType) → IsSend R → IsSend (slab.the_row R Heap.the_row ghosts)
-slab-send R s = search (sendable, crosses) depth 40 fits 20000
+row-inside-send : (R : RattleType) → IsSend R → IsSend (row_inside.the_row R)
+row-inside-send R s = declared_send (row_inside.the_type R)
+    (heap.send, (heap.Vec-send _ (heap.Vec-send R s), (search sendable, (search sendable, tt))))
+
+row-send : (R : RattleType) → IsSend R → IsSend (row.the_row R)
+row-send R s = search (view_send, row-inside-send)
 
 number32 : IsSend denote.Builtin.u32
 number32 = search sendable
@@ -634,10 +641,10 @@ joint-send = search sendable depth 20
 node_list-send : IsSend node_list.the_row
 node_list-send =
     declared_send node_list.the_type (
-      heap.Vec-send _ joint-send,
+      row-send _ joint-send,
       (
-        heap.Vec-send _ value-send,
-        (heap.Vec-send _ number, (search sendable, tt)),
+        row-send _ value-send,
+        (row-send _ number, (search sendable, tt)),
       ),
     )
 
@@ -647,9 +654,14 @@ nodes-send = declared_send nodes.the_type (node_list-send, (number32, (search se
 ring-send : IsSend ring.the_row
 ring-send = search sendable depth 20
 
+slot-send : IsSend slot.the_row
+slot-send = search (made, ring-send, sendable) depth 30 fits 20000
+
+ring_table-send : IsSend ring_table.the_row
+ring_table-send = declared_send ring_table.the_type (row-send _ slot-send, (search sendable, tt))
+
 rings-inside-send : IsSend rings_inside.the_row
-rings-inside-send =
-    declared_send rings_inside.the_type (nodes-send, (slab-send ring.the_row ring-send, tt))
+rings-inside-send = declared_send rings_inside.the_type (nodes-send, (ring_table-send, tt))
 
 rings-send : IsSend rings.the_row
 rings-send = search (view_send, rings-inside-send)
@@ -662,7 +674,7 @@ history-send =
     declared_send history.the_type (
       rings-send,
       (
-        heap.Vec-send _ (option-send ring_ref.the_row ring_ref-send),
+        row-send _ (option-send ring_ref.the_row ring_ref-send),
         (search sendable, tt),
       ),
     )

@@ -2,7 +2,7 @@
 use Rattle.std.specs.Prelude.{ℕ, List, refl}
 use Rattle.std.specs.Coded.{Coded, code_by, coded×, coded_ℕ, coded_list}
 
--- its items, and for how many more there is room in its last page
+-- its items, and for how many more there is room in its pages
 pub record Listed (T : Type 0) : Type 0 where
   pub items : List T
   pub room : ℕ

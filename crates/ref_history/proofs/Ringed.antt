@@ -169,23 +169,31 @@ swapped a b c d e h = omega arith
 first-swapped : (x y t : ℕ) → (y + t) + x ≡ (x + t) + y
 first-swapped x y t = omega arith
 
-pub reserved-set : (refs : Kept) (n : ℕ) (to : Option RingRef) → n < length refs
+set-reserved : (refs : Kept) (n : ℕ) (to : Option RingRef) → n < length refs
     → reserved_in (slice_set refs n to) + room_for (ref_at refs n)
     ≡ reserved_in refs + room_for to
-reserved-set [] n to within = absurd (omega arith)
-reserved-set (x ∷ xs) zero to within =
+set-reserved [] n to within = absurd (omega arith)
+set-reserved (x ∷ xs) zero to within =
     first-swapped (room_for x) (room_for to) (reserved_in xs)
-reserved-set (x ∷ xs) (suc n) to within =
+set-reserved (x ∷ xs) (suc n) to within =
     swapped (reserved_in (slice_set xs n to)) (room_for (ref_at xs n)) (reserved_in xs)
-    (room_for to) (room_for x) (reserved-set xs n to (omega (arith, within)))
+    (room_for to) (room_for x) (set-reserved xs n to (omega (arith, within)))
 
-pub set-here : (refs : Kept) (n : ℕ) (k : RingRef) (to : Option RingRef) → ref_at refs n ≡ Some k
-    → ref_at (slice_set refs n to) n ≡ to
-set-here refs n k to there = get_or-set_same refs n to None (in-kept refs n k there)
+pub reserved-set : (refs after : Kept) (n : ℕ) (to : Option RingRef) → after ≡ slice_set refs n to
+    → n < length refs → reserved_in after + room_for (ref_at refs n) ≡ reserved_in refs + room_for to
+reserved-set refs after n to put within =
+    ap (λ (xs : Kept). reserved_in xs + room_for (ref_at refs n)) put ∙ set-reserved refs n to within
 
-pub set-others : (refs : Kept) (n : ℕ) (to : Option RingRef) (m : ℕ) → m ≢ n
-    → ref_at (slice_set refs n to) m ≡ ref_at refs m
-set-others refs n to m differ = get_or-set_other refs n m to None differ
+pub set-here : (refs after : Kept) (n : ℕ) (k : RingRef) (to : Option RingRef)
+    → after ≡ slice_set refs n to → ref_at refs n ≡ Some k → ref_at after n ≡ to
+set-here refs after n k to put there =
+    ap (λ (xs : Kept). ref_at xs n) put
+    ∙ get_or-set_same refs n to None (in-kept refs n k there)
+
+pub set-others : (refs after : Kept) (n : ℕ) (to : Option RingRef) → after ≡ slice_set refs n to
+    → (m : ℕ) → m ≢ n → ref_at after m ≡ ref_at refs m
+set-others refs after n to put m differ =
+    ap (λ (xs : Kept). ref_at xs m) put ∙ get_or-set_other refs n m to None differ
 
 pub pushed-none : (refs : Kept) (n : ℕ) → ref_at (refs ++ None ∷ []) n ≡ ref_at refs n
 pushed-none [] zero = refl
@@ -196,22 +204,6 @@ pushed-none (x ∷ xs) (suc n) = pushed-none xs n
 pub reserved-none : (refs : Kept) → reserved_in (refs ++ None ∷ []) ≡ reserved_in refs
 reserved-none [] = refl
 reserved-none (x ∷ xs) = ap (λ n. room_for x + n) (reserved-none xs)
-
-pub few-reserved : (refs : Kept) → reserved_in refs ≤ length refs
-few-reserved [] = omega arith
-few-reserved (None ∷ xs) = more 0 (reserved_in xs) (length xs) (omega arith) (few-reserved xs)
-  where
-    more : (a b c : ℕ) → a ≤ 1 → b ≤ c → a + b ≤ suc c
-    more a b c h g = omega arith
-few-reserved (Some k ∷ xs) =
-    more (room_for (Some k)) (reserved_in xs) (length xs) (one k.has_room) (few-reserved xs)
-  where
-    more : (a b c : ℕ) → a ≤ 1 → b ≤ c → a + b ≤ suc c
-    more a b c h g = omega arith
-
-    one : (b : Bool) → cond b 1 0 ≤ 1
-    one true = omega arith
-    one false = omega arith
 
 -- A version is added
 

@@ -5,25 +5,26 @@ ghost use Rattle.ref_history.specs.Rung.{reserved_in};
 use crate::history::History;
 use crate::ref_id::{Bounds, RefId};
 use crate::ring_ref::{RingRef, put_at, ring_of};
+use paged_list::PagedRow;
 use std::alloc::{AllocError, Global};
 use value_data::Value;
 use version_rings::Rings;
 
-/// Refs whose versions lie in the nodes of one vector. What one ref gives back another takes. All
-/// calls but `read_at` and `drop_ref` take about as many steps however much is stored: `make` and
-/// `reserve` on average, since they double what is full.
+/// Refs whose versions lie in the nodes of one list. What one ref gives back another takes. All
+/// calls but `read_at` and `drop_ref` take about as many steps however much is stored: where the
+/// pages in which it lies are full, one more is begun, and nothing that is kept moves.
 #[derive(Drop)]
 pub struct RingHistory {
     pub(crate) rings: Rings,
     // under the number of the ring
-    pub(crate) refs: Vec<Option<RingRef>>,
+    pub(crate) refs: PagedRow<Option<RingRef>>,
     // at least as many as refs for whose next version room is reserved
     pub(crate) reserved: usize,
     ghost counted: { reserved_in refs.items ≤ reserved },
 }
 
 impl RingHistory {
-    ghost use Rattle.std.specs.Prelude.{◌≡◌, ◌-◌, Some, IsTrue};
+    ghost use Rattle.std.specs.Prelude.{◌≡◌, ◌+◌, ◌-◌, Some, IfSome, IsTrue};
     ghost use Rattle.ref_history.specs.Versioned.{Ref, grows};
     ghost use Rattle.ref_history.specs.Changes.{IsAbsent};
     ghost use Rattle.ref_history.specs.RingHistories.{RingStands};
@@ -36,7 +37,7 @@ impl RingHistory {
     {
         RingHistory {
             rings: Rings::new(alloc),
-            refs: Vec::new(alloc),
+            refs: PagedRow::new(alloc),
             reserved: 0,
         }
     }
@@ -47,9 +48,10 @@ impl RingHistory {
         if !self.rings.is_live(ring_of(id)) {
             return None;
         }
-        match self.refs.get(id.place) {
-            Some(kept) => *kept,
-            None => None,
+        if id.place < self.refs.len() {
+            *self.refs.at(id.place)
+        } else {
+            None
         }
     }
 
@@ -59,6 +61,17 @@ impl RingHistory {
     {
         let behind = (self.rings.count(ring_of(id)) as u64).saturating_sub(1);
         (kept.is_faulted && behind < kept.bounds.most) || behind < kept.bounds.least
+    }
+
+    // For how many refs room is to be reserved, with one.
+    fn reserved_with(&self, kept: RingRef) -> Option<usize>
+        ensures { IfSome result (λ n. n + room_for (Some kept) ≡ self.now.reserved + 1) }
+    {
+        if kept.has_room {
+            Some(self.reserved)
+        } else {
+            self.reserved.checked_add(1)
+        }
     }
 
     // For how many refs room stays reserved where one goes.
@@ -83,10 +96,11 @@ impl RingHistory {
         ensures { Changed id with_failed_read (RingStands self.old) (RingStands self.new) }
     {
         if let Some(kept) = self.kept(id) {
-            self.refs[id.place] = Some(RingRef {
+            let kept = RingRef {
                 is_faulted: true,
                 ..kept
-            });
+            };
+            self.refs.set(id.place, Some(kept));
         }
     }
 }
@@ -119,17 +133,16 @@ impl History for RingHistory {
         if !self.grows(id, kept) {
             return Ok(());
         }
-        let wanted = if kept.has_room {
-            self.reserved
-        } else {
-            self.reserved.saturating_add(1)
+        let Some(wanted) = self.reserved_with(kept) else {
+            return Err(AllocError);
         };
         self.rings.reserve(wanted)?;
         self.reserved = wanted;
-        self.refs[id.place] = Some(RingRef {
+        let kept = RingRef {
             has_room: true,
             ..kept
-        });
+        };
+        self.refs.set(id.place, Some(kept));
         Ok(())
     }
 
@@ -140,11 +153,12 @@ impl History for RingHistory {
         let grows = self.grows(id, kept);
         let _ = self.rings.push(ring_of(id), stamp, value, grows);
         if grows {
-            self.refs[id.place] = Some(RingRef {
+            let kept = RingRef {
                 has_room: false,
                 is_faulted: false,
                 ..kept
-            });
+            };
+            self.refs.set(id.place, Some(kept));
             self.reserved = self.reserved.saturating_sub(1);
         }
     }
@@ -180,14 +194,14 @@ impl History for RingHistory {
     fn set_least(&mut self, id: RefId, least: u64) {
         if let Some(mut kept) = self.kept(id) {
             kept.bounds.least = least;
-            self.refs[id.place] = Some(kept);
+            self.refs.set(id.place, Some(kept));
         }
     }
 
     fn set_most(&mut self, id: RefId, most: u64) {
         if let Some(mut kept) = self.kept(id) {
             kept.bounds.most = most;
-            self.refs[id.place] = Some(kept);
+            self.refs.set(id.place, Some(kept));
         }
     }
 
@@ -197,7 +211,7 @@ impl History for RingHistory {
         };
         let reserved = self.reserved_without(kept);
         self.rings.release(ring_of(id));
-        self.refs[id.place] = None;
+        self.refs.set(id.place, None);
         self.reserved = reserved;
     }
 
@@ -207,7 +221,7 @@ impl History for RingHistory {
         };
         let reserved = self.reserved_without(kept);
         self.rings.take_out(ring_of(id), values);
-        self.refs[id.place] = None;
+        self.refs.set(id.place, None);
         self.reserved = reserved;
     }
 }

@@ -3,6 +3,7 @@ ghost use Rattle.std.specs.Prelude.{◌≡◌, ◌≢◌, ◌≤◌, ℕ, Some, 
 ghost use Rattle.ref_history.specs.Rung.{ref_at, reserved_in, ring_number};
 
 use crate::ref_id::{Bounds, RefId};
+use paged_list::PagedRow;
 use std::alloc::AllocError;
 use version_rings::RingId;
 
@@ -23,7 +24,7 @@ pub(crate) fn ring_of(id: RefId) -> RingId
 }
 
 pub(crate) fn put_at(
-    refs: &mut Vec<Option<RingRef>>,
+    refs: &mut PagedRow<Option<RingRef>>,
     place: usize,
     kept: RingRef,
 ) -> Result<(), AllocError>
@@ -34,8 +35,9 @@ pub(crate) fn put_at(
         → reserved_in refs.new.items ≤ reserved_in refs.old.items }
 {
     while refs.len() <= place {
-        refs.push(None)?;
+        refs.reserve(1)?;
+        refs.put(None);
     }
-    refs[place] = Some(kept);
+    refs.set(place, Some(kept));
     Ok(())
 }

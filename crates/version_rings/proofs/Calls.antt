@@ -1,7 +1,7 @@
 -- What each call makes of the rings, as callers see them.
 use Rattle.std.proofs.Common.{◌≡◌, ◌≤◌, ◌≢◌, ◌<◌, ◌+◌, ◌-◌, ℕ, zero, suc, List, [], ◌∷◌, length}
-use Rattle.std.proofs.Common.{Option, None, Some, refl, sym, ap, ◌∙◌, subst, arith}
-use Rattle.std.proofs.Common.{IsTrue, IsSome}
+use Rattle.std.proofs.Common.{Option, None, Some, sym, ap, ◌∙◌, subst, arith}
+use Rattle.std.specs.Prelude.{is_some}
 use Rattle.std.proofs.lemmas.List.{get_or-set_same, get_or-set_other, length-set}
 use Rattle.std.specs.Prelude.{slice_set, true, false, Bool, ◌==◌, if◌then◌else◌, ◌&&◌}
 use Rattle.value_data.specs.declared.value.Value.{Value}
@@ -96,34 +96,38 @@ made s t rings mid later id place content sound is at t-is none some same =
     (some ∙ ap (λ (p : ℕ). Some (record { newest = p; count = 1 })) at)
     (λ k differ. same k differ ∙ ap (λ (rs : List (Option Ring)). ring_at rs k) is))
 
-pub grew : (s t : Space) (rings : List (Option Ring)) (id place stamp : ℕ) (content : Value)
+pub grew : (s t : Space) (rings later : List (Option Ring)) (id place stamp : ℕ) (content : Value)
     (ring : Ring) → IsSound s rings → ring_at rings id ≡ Some ring → place ≡ vacant s
     → t ≡ with_newest ring.newest stamp content s
-    → Becomes s t rings
-    (slice_set rings id (Some (record { newest = place; count = ring.count + 1 }))) id
+    → later ≡ slice_set rings id (Some (record { newest = place; count = ring.count + 1 }))
+    → Becomes s t rings later id
     (pushed true (version stamp (view content)) (ring_versions s.nodes (Some ring)))
-grew s t rings id place stamp content ring sound there at t-is =
+grew s t rings later id place stamp content ring sound there at t-is set =
     let new : Option Ring = Some (record { newest = place; count = ring.count + 1 }) in
     let vs = pushed true (version stamp (view content)) (ring_versions s.nodes (Some ring)) in
-    subst (λ (x : Space). Becomes s x rings (slice_set rings id new) id vs) (sym t-is)
-    (ring-grown s rings (slice_set rings id new) id stamp content ring sound there
-    (get_or-set_same rings id new None (in-list rings id ring there)
+    subst (λ (x : Space). Becomes s x rings later id vs) (sym t-is)
+    (ring-grown s rings later id stamp content ring sound there
+    (ap (λ (rs : List (Option Ring)). ring_at rs id) set
+    ∙ get_or-set_same rings id new None (in-list rings id ring there)
     ∙ ap (λ (p : ℕ). Some (record { newest = p; count = ring.count + 1 })) at)
-    (λ k differ. get_or-set_other rings id k new None differ))
+    (λ k differ. ap (λ (rs : List (Option Ring)). ring_at rs k) set
+    ∙ get_or-set_other rings id k new None differ))
 
-pub overwrote : (s t : Space) (rings : List (Option Ring)) (id place stamp : ℕ) (content : Value)
-    (ring : Ring) → IsSound s rings → ring_at rings id ≡ Some ring
+pub overwrote : (s t : Space) (rings later : List (Option Ring)) (id place stamp : ℕ)
+    (content : Value) (ring : Ring) → IsSound s rings → ring_at rings id ≡ Some ring
     → place ≡ newer_at s.nodes ring.newest → t ≡ with_content place stamp content s
-    → Becomes s t rings
-    (slice_set rings id (Some (record { newest = place; count = ring.count }))) id
+    → later ≡ slice_set rings id (Some (record { newest = place; count = ring.count }))
+    → Becomes s t rings later id
     (pushed false (version stamp (view content)) (ring_versions s.nodes (Some ring)))
-overwrote s t rings id place stamp content ring sound there at t-is =
+overwrote s t rings later id place stamp content ring sound there at t-is set =
     let new : Option Ring = Some (record { newest = place; count = ring.count }) in
     let vs = pushed false (version stamp (view content)) (ring_versions s.nodes (Some ring)) in
-    subst (λ (x : Space). Becomes s x rings (slice_set rings id new) id vs) (sym t-is)
-    (overwritten s rings (slice_set rings id new) id stamp content ring sound there
-    (λ k differ. get_or-set_other rings id k new None differ) place at
-    (get_or-set_same rings id new None (in-list rings id ring there)))
+    subst (λ (x : Space). Becomes s x rings later id vs) (sym t-is)
+    (overwritten s rings later id stamp content ring sound there
+    (λ k differ. ap (λ (rs : List (Option Ring)). ring_at rs k) set
+    ∙ get_or-set_other rings id k new None differ) place at
+    (ap (λ (rs : List (Option Ring)). ring_at rs id) set
+    ∙ get_or-set_same rings id new None (in-list rings id ring there)))
 
 pub let-go : (s : Space) (rings later : List (Option Ring)) (id : ℕ) (ring : Ring)
     → IsSound s rings → ring_at rings id ≡ Some ring → ring_at later id ≡ None
@@ -219,10 +223,8 @@ nodes-after false false old new g k t = cc g
 pub live-as : (room : ℕ) (s : Space) (rings : List (Option Ring)) (now : Rings) (id : RingId)
     (found : Option Ring)
     (b : Bool) → IsSound s rings → seen_rings room s rings ≡ now → ring_at rings id.place ≡ found
-    → (IsTrue b → IsSome found) → (IsSome found → IsTrue b) → b ≡ is_kept (versions now id)
-live-as room s rings now id None true sound is e to from = cc (to refl)
-live-as room s rings now id None false sound is e to from =
-    sym (ap is_kept (seen-none room s rings now id is e))
-live-as room s rings now id (Some ring) true sound is e to from =
-    sym (seen-kept room s rings now id ring sound is e)
-live-as room s rings now id (Some ring) false sound is e to from = cc (from refl)
+    → b ≡ is_some found → b ≡ is_kept (versions now id)
+live-as room s rings now id None b sound is e known =
+    known ∙ sym (ap is_kept (seen-none room s rings now id is e))
+live-as room s rings now id (Some ring) b sound is e known =
+    known ∙ sym (seen-kept room s rings now id ring sound is e)

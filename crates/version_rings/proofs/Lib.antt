@@ -2,6 +2,7 @@ pub mod Parts
 pub mod Places
 pub mod Writes
 pub mod Paths
+pub mod Tables
 pub mod Totals
 pub mod Becoming
 pub mod Turning

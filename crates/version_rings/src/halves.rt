@@ -1,6 +1,8 @@
 // Stamps by their halves. Stamps that have no upper half take no place for one.
 ghost use Rattle.std.specs.Prelude.{◌≡◌, ◌≢◌, ◌<◌, ◌≤◌, ◌+◌, ◌*◌, ◌/◌, ◌%◌, ◌^◌, ℕ, length};
-ghost use Rattle.std.specs.Prelude.{slice_index_or, vec_capacity};
+ghost use Rattle.std.specs.Prelude.{slice_index_or};
+
+use paged_list::PagedRow;
 
 const HALF: u128 = 1 << 64;
 
@@ -22,30 +24,32 @@ pub(crate) fn joined(upper: u64, lower: u64) -> u128
     upper as u128 * HALF + lower as u128
 }
 
-pub(crate) fn upper_at(uppers: &[u64], place: usize) -> u64
-    ensures { result ≡ slice_index_or uppers.now place 0 }
+pub(crate) fn upper_at(uppers: &PagedRow<u64>, place: usize) -> u64
+    ensures { result ≡ slice_index_or uppers.now.items place 0 }
 {
-    match uppers.get(place) {
-        Some(upper) => *upper,
-        None => 0,
+    if place < uppers.len() {
+        *uppers.at(place)
+    } else {
+        0
     }
 }
 
 // Where there is none yet, those between are 0.
-pub(crate) fn put_upper(uppers: &mut Vec<u64>, place: usize, upper: u64)
-    requires { place < vec_capacity uppers.old }
+pub(crate) fn put_upper(uppers: &mut PagedRow<u64>, place: usize, upper: u64)
+    requires { place < length uppers.old.items + uppers.old.room }
     ensures here { slice_index_or uppers.new.items place 0 ≡ upper }
     ensures others { (n : ℕ) → n ≢ place
         → slice_index_or uppers.new.items n 0 ≡ slice_index_or uppers.old.items n 0 }
     ensures few { (most : ℕ) → place < most → length uppers.old.items ≤ most
         → length uppers.new.items ≤ most }
-    ensures capacity { vec_capacity uppers.new ≡ vec_capacity uppers.old }
+    ensures fitting { length uppers.new.items + uppers.new.room
+        ≡ length uppers.old.items + uppers.old.room }
 {
     if upper == 0 && uppers.len() <= place {
         return;
     }
     while uppers.len() <= place {
-        uppers.push_reserved(0);
+        uppers.put(0);
     }
-    uppers[place] = upper;
+    uppers.set(place, upper);
 }

@@ -1,10 +1,10 @@
 // Nodes by their parts: what a walk passes stands close together, apart from the values.
-ghost use Rattle.std.specs.Prelude.{◌≡◌, ◌<◌, ◌≤◌, ◌^◌, length, vec_capacity};
+ghost use Rattle.std.specs.Prelude.{◌≡◌, ◌<◌, ◌≤◌, ◌+◌, ◌^◌, length};
 
 use crate::halves::{joined, lower_half, put_upper, upper_at, upper_half};
 use crate::node::{Joint, Node};
+use paged_list::PagedRow;
 use std::alloc::{AllocError, Global};
-use std::mem;
 use value_data::Value;
 
 // More nodes have no places.
@@ -12,23 +12,23 @@ const MOST: usize = u32::MAX as usize;
 
 #[derive(Drop)]
 pub(crate) struct NodeList {
-    pub(crate) joints: Vec<Joint>,
-    pub(crate) contents: Vec<Value>,
+    pub(crate) joints: PagedRow<Joint>,
+    pub(crate) contents: PagedRow<Value>,
     // the upper halves of the stamps, up to the last that had one; those behind it are 0
-    pub(crate) uppers: Vec<u64>,
+    pub(crate) uppers: PagedRow<u64>,
     // each of the three has room for so many
     pub(crate) fitting: usize,
     ghost few: { fitting < 2 ^ 32 },
     ghost even: { length contents.items ≡ length joints.items },
     ghost fewer: { length uppers.items ≤ length joints.items },
     ghost fits: { length joints.items ≤ fitting },
-    ghost joints_fit: { fitting ≤ vec_capacity joints },
-    ghost contents_fit: { fitting ≤ vec_capacity contents },
-    ghost uppers_fit: { fitting ≤ vec_capacity uppers },
+    ghost joints_fit: { fitting ≤ length joints.items + joints.room },
+    ghost contents_fit: { fitting ≤ length contents.items + contents.room },
+    ghost uppers_fit: { fitting ≤ length uppers.items + uppers.room },
 }
 
 impl NodeList {
-    ghost use Rattle.std.specs.Prelude.{◌+◌, ◌++◌, ◌∷◌, [], IsOk, OnOk, OnErr, slice_set};
+    ghost use Rattle.std.specs.Prelude.{◌++◌, ◌∷◌, [], IsOk, OnOk, OnErr, slice_set};
     ghost use Rattle.version_rings.specs.Inside.Nodes.{node_at, older_at, newer_at};
     ghost use Rattle.version_rings.specs.Inside.Nodes.{with_older, with_newer, new_content};
     ghost use Rattle.version_rings.specs.Inside.Listed.{listed, room_in};
@@ -38,9 +38,9 @@ impl NodeList {
         ensures room { room_in result ≡ 0 }
     {
         NodeList {
-            joints: Vec::new(alloc),
-            contents: Vec::new(alloc),
-            uppers: Vec::new(alloc),
+            joints: PagedRow::new(alloc),
+            contents: PagedRow::new(alloc),
+            uppers: PagedRow::new(alloc),
             fitting: 0,
         }
     }
@@ -80,12 +80,12 @@ impl NodeList {
     {
         let place = self.joints.len();
         put_upper(&mut self.uppers, place, upper_half(node.stamp));
-        self.joints.push_reserved(Joint {
+        self.joints.put(Joint {
             lower: lower_half(node.stamp),
             older: node.older,
             newer: node.newer,
         });
-        self.contents.push_reserved(node.content);
+        self.contents.put(node.content);
     }
 
     pub(crate) fn set(&mut self, place: u32, node: Node)
@@ -104,12 +104,15 @@ impl NodeList {
     {
         let place = place as usize;
         put_upper(&mut self.uppers, place, upper_half(node.stamp));
-        self.joints[place] = Joint {
-            lower: lower_half(node.stamp),
-            older: node.older,
-            newer: node.newer,
-        };
-        mem::replace(&mut self.contents[place], node.content)
+        self.joints.set(
+            place,
+            Joint {
+                lower: lower_half(node.stamp),
+                older: node.older,
+                newer: node.newer,
+            },
+        );
+        self.contents.replace(place, node.content)
     }
 
     pub(crate) fn set_version(&mut self, place: u32, stamp: u128, content: Value)
@@ -119,8 +122,15 @@ impl NodeList {
     {
         let place = place as usize;
         put_upper(&mut self.uppers, place, upper_half(stamp));
-        self.joints[place].lower = lower_half(stamp);
-        self.contents[place] = content;
+        let joint = *self.joints.at(place);
+        self.joints.set(
+            place,
+            Joint {
+                lower: lower_half(stamp),
+                ..joint
+            },
+        );
+        self.contents.set(place, content);
     }
 
     pub(crate) fn set_older(&mut self, place: u32, older: u32)
@@ -128,7 +138,9 @@ impl NodeList {
         ensures nodes { listed self.new ≡ with_older place older (listed self.old) }
         ensures room { room_in self.new ≡ room_in self.old }
     {
-        self.joints[place as usize].older = older;
+        let place = place as usize;
+        let joint = *self.joints.at(place);
+        self.joints.set(place, Joint { older, ..joint });
     }
 
     pub(crate) fn set_newer(&mut self, place: u32, newer: u32)
@@ -136,21 +148,23 @@ impl NodeList {
         ensures nodes { listed self.new ≡ with_newer place newer (listed self.old) }
         ensures room { room_in self.new ≡ room_in self.old }
     {
-        self.joints[place as usize].newer = newer;
+        let place = place as usize;
+        let joint = *self.joints.at(place);
+        self.joints.set(place, Joint { newer, ..joint });
     }
 
     pub(crate) fn older(&self, place: u32) -> u32
         requires { place < length (listed self.now) }
         ensures { result ≡ older_at (listed self.now) place }
     {
-        self.joints[place as usize].older
+        self.joints.at(place as usize).older
     }
 
     pub(crate) fn newer(&self, place: u32) -> u32
         requires { place < length (listed self.now) }
         ensures { result ≡ newer_at (listed self.now) place }
     {
-        self.joints[place as usize].newer
+        self.joints.at(place as usize).newer
     }
 
     pub(crate) fn stamp(&self, place: u32) -> u128
@@ -158,13 +172,13 @@ impl NodeList {
         ensures { result ≡ (node_at (listed self.now) place).stamp }
     {
         let place = place as usize;
-        joined(upper_at(&self.uppers, place), self.joints[place].lower)
+        joined(upper_at(&self.uppers, place), self.joints.at(place).lower)
     }
 
     pub(crate) fn content(&self, place: u32) -> &Value
         requires { place < length (listed self.now) }
         ensures { result.now ≡ (node_at (listed self.now) place).content }
     {
-        &self.contents[place as usize]
+        self.contents.at(place as usize)
     }
 }

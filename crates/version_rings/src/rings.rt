@@ -9,7 +9,7 @@ ghost use Rattle.version_rings.specs.declared.node.RingId.{RingId};
 
 use crate::node::{Node, Ring, RingId};
 use crate::nodes::Nodes;
-use slab::Slab;
+use crate::ring_table::RingTable;
 use std::alloc::{AllocError, Global};
 use std::marker::Model;
 use value_data::Value;
@@ -21,7 +21,7 @@ use value_data::Value;
 #[derive(Drop)]
 pub struct Rings {
     pub(crate) nodes: Nodes,
-    pub(crate) rings: Slab<Ring>,
+    pub(crate) rings: RingTable,
 }
 
 impl Model for Rings {
@@ -33,10 +33,11 @@ impl Model for Rings {
 
     ghost use Rattle.version_rings.specs.Inside.Seen.{space, room, seen_rings};
     ghost use Rattle.version_rings.specs.Inside.Sound.{IsSound};
+    ghost use Rattle.version_rings.specs.Inside.Table.{rings_of};
 
-    ghost view = { λ r. seen_rings (room r.nodes) (space r.nodes) r.rings.slots };
+    ghost view = { λ r. seen_rings (room r.nodes) (space r.nodes) (rings_of r.rings) };
 
-    ghost invariant = { λ r. IsSound (space r.nodes) r.rings.slots };
+    ghost invariant = { λ r. IsSound (space r.nodes) (rings_of r.rings) };
 }
 
 impl Rings {
@@ -49,7 +50,7 @@ impl Rings {
     {
         Rings {
             nodes: Nodes::new(alloc),
-            rings: Slab::new(alloc),
+            rings: RingTable::new(alloc),
         }
     }
 
@@ -62,7 +63,7 @@ impl Rings {
         ensures node { OnOk result (TakesNode self.old self.new) }
         ensures as_it_was { OnErr result (self.new ≡ self.old) }
     {
-        self.rings.reserve(1)?;
+        self.rings.reserve()?;
         let place = self.nodes.vacant();
         self.nodes.put(Node {
             stamp: 0,
@@ -102,14 +103,16 @@ impl Rings {
         ensures absent { versions self.old id ≡ [] → self.new ≡ self.old }
         ensures as_it_was { OnErr result (self.new ≡ self.old) }
     {
-        let Some(ring) = self.rings.get_mut(id.place) else {
+        let Some(ring) = self.rings.get(id.place) else {
             return Ok(());
         };
         if grow {
-            ring.newest = self.nodes.put_before(ring.newest, stamp, value)?;
-            ring.count += 1;
+            let newest = self.nodes.put_before(ring.newest, stamp, value)?;
+            let count = ring.count + 1;
+            self.rings.set(id.place, Ring { newest, count });
         } else {
-            ring.newest = self.nodes.overwrite_oldest(ring.newest, stamp, value);
+            let newest = self.nodes.overwrite_oldest(ring.newest, stamp, value);
+            self.rings.set(id.place, Ring { newest, ..ring });
         }
         Ok(())
     }
@@ -155,7 +158,7 @@ impl Rings {
     pub fn is_live(&self, id: RingId) -> bool
         ensures { result ≡ is_kept (versions self.now id) }
     {
-        self.rings.contains(id.place)
+        self.rings.get(id.place).is_some()
     }
 
     /// Clears a ring, and frees its nodes. It costs a step for each version that was kept.

@@ -1,9 +1,9 @@
-use Rattle.std.proofs.Common.{◌≡◌, ◌+◌, ◌-◌, ℕ, vec_len}
+use Rattle.std.proofs.Common.{◌≡◌, ◌+◌, ◌-◌, ℕ, length}
 use Rattle.ref_history.specs.Rung.{ref_at, reserved_in}
 use Rattle.ref_history.proofs.ring_ref.put_at.Given as goal
 
 abbrev pub decreases-loop-refs : goal.decreases-loop-refs
-decreases-loop-refs l = l.place + 1 - vec_len l.refs
+decreases-loop-refs l = l.place + 1 - length l.refs.items
 
 -- what is put behind all is nothing
 abbrev pub invariant-loop-refs : goal.invariant-loop-refs

@@ -6,7 +6,7 @@ use Rattle.version_rings.proofs.halves.put_upper.Goals as goal
 
 pub loop-uppers-preserved : goal.loop-uppers-preserved
 loop-uppers-preserved c =
-    let e = c.push_reserved.ensures.items in
+    let e = c.put.ensures.items in
     let was = c.loop-uppers.uppers.items in
     record {
       same = λ n. ap (λ (xs : List ℕ). upper_at xs n) e ∙ pushed-zero was n
@@ -18,7 +18,12 @@ loop-uppers-preserved c =
         above,
         c.loop-uppers-test.true,
         c.len-in-loop-uppers.ensures,
-        c.loop-uppers.uppers.ok,
       );
-      capacity = c.push_reserved.ensures.capacity ∙ c.loop-uppers.invariant.capacity;
+      fitting = omega (
+        arith,
+        ap length e,
+        length_push was 0,
+        c.put.ensures.room,
+        c.loop-uppers.invariant.fitting,
+      );
     }

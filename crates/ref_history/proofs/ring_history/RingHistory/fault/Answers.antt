@@ -13,7 +13,7 @@ invariant_of-self c =
     let k = c.in-Some.kept in
     let there = (found-there was.rings refs c.args.id k c.in-Some.ensures) in
     let to : RingRef = record k { is_faulted = true } in
-    let set = reserved-set refs c.args.id.place (Some to)
+    let set = reserved-set refs c.set.new.self.items c.args.id.place (Some to) c.set.ensures.items
     (in-kept refs c.args.id.place k there.1) in
     let same = ap room_for there.1 in
     let known = was.counted in
@@ -27,8 +27,8 @@ returns-in-Some c =
     let there = (found-there was.rings refs c.args.id k c.in-Some.ensures) in
     let to : RingRef = record k { is_faulted = true } in
     changed-in was.rings was.rings refs _ c.args.id k to with_failed_read
-    c.in-Some.ensures (set-here refs c.args.id.place k (Some to) there.1)
-    (λ other differ. refl) (λ n differ. set-others refs c.args.id.place (Some to) n differ)
+    c.in-Some.ensures (set-here refs c.set.new.self.items c.args.id.place k (Some to) c.set.ensures.items there.1)
+    (λ other differ. refl) (λ n differ. set-others refs c.set.new.self.items c.args.id.place (Some to) c.set.ensures.items n differ)
     (λ r s. record {
       versions = s.versions;
       many = s.many;

@@ -1,7 +1,6 @@
 use Rattle.std.proofs.Common.{◌≡◌, ◌≢◌, ◌<◌, arith, ap, sym, ◌∙◌, refl, Some, cond, Bool}
 use Rattle.std.proofs.Common.{false}
 use Rattle.std.proofs.Common.{subst, List}
-use Rattle.std.specs.Prelude.{slice_set}
 use Rattle.value_data.specs.Inside.View.{view}
 use Rattle.version_rings.specs.Rings.{versions}
 use Rattle.version_rings.specs.Versions as ring
@@ -29,7 +28,7 @@ invariant_of-self c =
     let room = c.requires k seen.0 there.1 seen.1
     (sym (c.grows-grows.ensures seen.0 seen.1) ∙ c.if-grows.true) in
     let to : RingRef = record k { has_room = false; is_faulted = false } in
-    let set = reserved-set refs c.args.id.place (Some to)
+    let set = reserved-set refs c.set.new.self.items c.args.id.place (Some to) c.set.ensures.items
     (in-kept refs c.args.id.place k there.1) in
     let same = ap room_for there.1 in
     let one : room_for (Some k) ≡ 1 = ap (λ (b : Bool). cond b 1 0) room.0 in
@@ -49,7 +48,7 @@ returns-then-grows-clause-added c =
     let room = c.requires k seen.0 there.1 seen.1
     (sym (c.grows-grows.ensures seen.0 seen.1) ∙ c.if-grows.true) in
     let to : RingRef = record k { has_room = false; is_faulted = false } in
-    let set = reserved-set refs c.args.id.place (Some to)
+    let set = reserved-set refs c.set.new.self.items c.args.id.place (Some to) c.set.ensures.items
     (in-kept refs c.args.id.place k there.1) in
     let same = ap room_for there.1 in
     let one : room_for (Some k) ≡ 1 = ap (λ (b : Bool). cond b 1 0) room.0 in
@@ -58,12 +57,12 @@ returns-then-grows-clause-added c =
     let is : versions_of c.push.new.self c.args.id ≡ pushed g v (versions_of was.rings c.args.id) =
     sym (ap (versions c.push.new.self) e) ∙ now-pushed
     ∙ ap (λ (x : RingId). pushed g v (versions was.rings x)) e in
-    changed-in was.rings c.push.new.self refs (slice_set refs c.args.id.place (Some to)) c.args.id
+    changed-in was.rings c.push.new.self refs c.set.new.self.items c.args.id
     k to (with_version (version c.args.stamp (view c.args.value))) c.in-Some.ensures
-    (set-here refs c.args.id.place k (Some to) there.1)
+    (set-here refs c.set.new.self.items c.args.id.place k (Some to) c.set.ensures.items there.1)
     (λ other differ. c.push.ensures.others (ring_number other)
     (not-ring c.args.id other c.ring_of.result e differ))
-    (λ n differ. set-others refs c.args.id.place (Some to) n differ)
+    (λ n differ. set-others refs c.set.new.self.items c.args.id.place (Some to) c.set.ensures.items n differ)
     (λ r s. subst (λ (vs : List ring.Version).
     RingKept vs to (with_version (version c.args.stamp (view c.args.value)) r)) (sym is)
     (added-in (versions_of was.rings c.args.id) v k to r g there.0 (c.grows-grows.ensures r s)
@@ -82,7 +81,7 @@ returns-then-grows-clause-rooms c = λ other differ had found r at kept grow.
     let room = c.requires k seen.0 there.1 seen.1
     (sym (c.grows-grows.ensures seen.0 seen.1) ∙ c.if-grows.true) in
     let to : RingRef = record k { has_room = false; is_faulted = false } in
-    let set = reserved-set refs c.args.id.place (Some to)
+    let set = reserved-set refs c.set.new.self.items c.args.id.place (Some to) c.set.ensures.items
     (in-kept refs c.args.id.place k there.1) in
     let same = ap room_for there.1 in
     let one : room_for (Some k) ≡ 1 = ap (λ (b : Bool). cond b 1 0) room.0 in
@@ -92,7 +91,7 @@ returns-then-grows-clause-rooms c = λ other differ had found r at kept grow.
     let lists = c.push.ensures.others (ring_number other)
     (not-ring c.args.id other c.ring_of.result e differ) in
     let place : other.place ≢ c.args.id.place = other-place c.args.id other differ in
-    let known = had found r (sym (set-others refs c.args.id.place (Some to) other.place place) ∙ at)
+    let known = had found r (sym (set-others refs c.set.new.self.items c.args.id.place (Some to) c.set.ensures.items other.place place) ∙ at)
     (subst (λ (vs : List ring.Version). RingKept vs found r) lists kept) grow in
     (known.0, omega (arith, set, same, one, took, known.1))
 

@@ -1,9 +1,7 @@
-use Rattle.std.proofs.Common.{◌≡◌, ◌≤◌, arith, ap, sym, ◌∙◌, refl, Some, cond, Bool, true, subst}
+use Rattle.std.proofs.Common.{◌≡◌, ◌≤◌, arith, ap, sym, ◌∙◌, refl, Some, true, subst}
 use Rattle.std.proofs.Common.{List}
 use Rattle.std.proofs.Common.{inl, inr}
 use Rattle.std.proofs.lemmas.Bool.{cases_eq}
-use Rattle.std.proofs.lemmas.List.{length-set}
-use Rattle.std.specs.Prelude.{slice_set}
 use Rattle.version_rings.specs.Rings.{Rings}
 use Rattle.version_rings.specs.Versions as ring
 use Rattle.ref_history.specs.Rung.{RingKept, room_for, reserved_in, ref_at}
@@ -11,8 +9,7 @@ use Rattle.ref_history.specs.Rung.{versions_of}
 use Rattle.ref_history.specs.declared.ring_ref.RingRef.{RingRef}
 use Rattle.ref_history.proofs.Standing.{some-same}
 use Rattle.ref_history.proofs.Ringed.{same-in, found-there, reserved-set, in-kept, set-here}
-use Rattle.ref_history.proofs.Ringed.{set-others, few-reserved}
-use Rattle.ref_history.proofs.ring_history.RingHistoryHistory.reserve.Goals.{then-kept, else-kept}
+use Rattle.ref_history.proofs.Ringed.{set-others}
 use Rattle.ref_history.proofs.ring_history.RingHistoryHistory.reserve.Goals as goal
 
 pub invariant_of-self-2 : goal.invariant_of-self-2
@@ -22,32 +19,11 @@ invariant_of-self-2 c =
     let k = c.in-Some.kept in
     let there = (found-there was.rings refs c.args.id k c.in-Some.ensures) in
     let to : RingRef = record k { has_room = true } in
-    let set = reserved-set refs c.args.id.place (Some to)
+    let set = reserved-set refs c.set.new.self.items c.args.id.place (Some to) c.set.ensures.items
     (in-kept refs c.args.id.place k there.1) in
     let same = ap room_for there.1 in
-    let bound : reserved_in (slice_set refs c.args.id.place (Some to)) ≤ c.if-kept.wanted =
-    elim c.if-kept.branch [
-      | then-kept w ↦
-          let one : room_for (Some k) ≡ 1 = ap (λ (b : Bool). cond b 1 0) w.if-kept.true in
-          omega (arith, set, same, one, w.wanted-is, was.counted)
-      | else-kept w ↦
-          let none : room_for (Some k) ≡ 0 = ap (λ (b : Bool). cond b 1 0) w.if-kept.false in
-          let few = few-reserved (slice_set refs c.args.id.place (Some to)) in
-          let many = length-set refs c.args.id.place (Some to) in
-          omega (
-            arith,
-            set,
-            same,
-            none,
-            w.wanted-is,
-            w.saturating_add-wanted.ensures,
-            was.counted,
-            few,
-            many,
-            was.refs.ok,
-            was.refs.small,
-          )
-    ] in
+    let bound : reserved_in c.set.new.self.items ≤ c.in-Some-reserved_with.wanted =
+    omega (arith, set, same, was.counted, c.in-Some-reserved_with.ensures) in
     record { counted = bound }
 
 pub returns-clause-rooms : goal.returns-clause-rooms
@@ -57,40 +33,19 @@ returns-clause-rooms c = λ other had found r at kept grow.
     let k = c.in-Some.kept in
     let there = (found-there was.rings refs c.args.id k c.in-Some.ensures) in
     let to : RingRef = record k { has_room = true } in
-    let set = reserved-set refs c.args.id.place (Some to)
+    let set = reserved-set refs c.set.new.self.items c.args.id.place (Some to) c.set.ensures.items
     (in-kept refs c.args.id.place k there.1) in
     let same = ap room_for there.1 in
-    let bound : reserved_in (slice_set refs c.args.id.place (Some to)) ≤ c.if-kept.wanted =
-    elim c.if-kept.branch [
-      | then-kept w ↦
-          let one : room_for (Some k) ≡ 1 = ap (λ (b : Bool). cond b 1 0) w.if-kept.true in
-          omega (arith, set, same, one, w.wanted-is, was.counted)
-      | else-kept w ↦
-          let none : room_for (Some k) ≡ 0 = ap (λ (b : Bool). cond b 1 0) w.if-kept.false in
-          let few = few-reserved (slice_set refs c.args.id.place (Some to)) in
-          let many = length-set refs c.args.id.place (Some to) in
-          omega (
-            arith,
-            set,
-            same,
-            none,
-            w.wanted-is,
-            w.saturating_add-wanted.ensures,
-            was.counted,
-            few,
-            many,
-            was.refs.ok,
-            was.refs.small,
-          )
-    ] in
+    let bound : reserved_in c.set.new.self.items ≤ c.in-Some-reserved_with.wanted =
+    omega (arith, set, same, was.counted, c.in-Some-reserved_with.ensures) in
     let lists = ap (λ (x : Rings). versions_of x other) c.in_ok-reserve.ensures.same in
     let flagged : found.has_room ≡ true = elim (cases_eq other.place c.args.id.place) [
       | inl same ↦
           sym (ap (λ (x : RingRef). x.has_room) (some-same to found
-          (sym (set-here refs c.args.id.place k (Some to) there.1)
-          ∙ sym (ap (ref_at (slice_set refs c.args.id.place (Some to))) same) ∙ at)))
+          (sym (set-here refs c.set.new.self.items c.args.id.place k (Some to) c.set.ensures.items there.1)
+          ∙ sym (ap (ref_at c.set.new.self.items) same) ∙ at)))
       | inr differ ↦
-          (had found r (sym (set-others refs c.args.id.place (Some to) other.place differ) ∙ at)
+          (had found r (sym (set-others refs c.set.new.self.items c.args.id.place (Some to) c.set.ensures.items other.place differ) ∙ at)
           (subst (λ (vs : List ring.Version). RingKept vs found r) lists kept) grow).0
     ] in
     let enough = c.in_ok-reserve.ensures.room in
@@ -103,7 +58,7 @@ returns-clause-same c =
     let k = c.in-Some.kept in
     let there = (found-there was.rings refs c.args.id k c.in-Some.ensures) in
     let to : RingRef = record k { has_room = true } in
-    same-in was.rings c.reserve.new.self refs (slice_set refs c.args.id.place (Some to)) c.args.id
-    k to c.in-Some.ensures (set-here refs c.args.id.place k (Some to) there.1)
+    same-in was.rings c.reserve.new.self refs c.set.new.self.items c.args.id
+    k to c.in-Some.ensures (set-here refs c.set.new.self.items c.args.id.place k (Some to) c.set.ensures.items there.1)
     (λ other. ap (λ (x : Rings). versions_of x other) c.in_ok-reserve.ensures.same)
-    (λ n differ. set-others refs c.args.id.place (Some to) n differ) refl refl
+    (λ n differ. set-others refs c.set.new.self.items c.args.id.place (Some to) c.set.ensures.items n differ) refl refl

@@ -13,7 +13,7 @@ invariant_of-self c =
     let k = c.in-Some.kept in
     let there = (found-there was.rings was.refs.items c.args.id k c.in-Some.ensures).1 in
     let to : RingRef = record k { bounds = record k.bounds { least = c.args.least } } in
-    let set = reserved-set was.refs.items c.args.id.place (Some to)
+    let set = reserved-set was.refs.items c.set.new.self.items c.args.id.place (Some to) c.set.ensures.items
     (in-kept was.refs.items c.args.id.place k there) in
     let same = ap room_for there in
     let known = was.counted in
@@ -26,9 +26,9 @@ returns-in-Some c =
     let there = (found-there was.rings was.refs.items c.args.id k c.in-Some.ensures).1 in
     let to : RingRef = record k { bounds = record k.bounds { least = c.args.least } } in
     changed-in was.rings was.rings was.refs.items _ c.args.id k to (with_least c.args.least)
-    c.in-Some.ensures (set-here was.refs.items c.args.id.place k (Some to) there)
+    c.in-Some.ensures (set-here was.refs.items c.set.new.self.items c.args.id.place k (Some to) c.set.ensures.items there)
     (λ other differ. refl)
-    (λ n differ. set-others was.refs.items c.args.id.place (Some to) n differ)
+    (λ n differ. set-others was.refs.items c.set.new.self.items c.args.id.place (Some to) c.set.ensures.items n differ)
     (λ r s. record {
       versions = s.versions;
       many = s.many;

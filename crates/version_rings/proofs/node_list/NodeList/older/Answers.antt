@@ -3,13 +3,13 @@ use Rattle.version_rings.specs.declared.node.Node.{Node}
 use Rattle.version_rings.proofs.Parts.{nodes-length, joint-part}
 use Rattle.version_rings.proofs.node_list.NodeList.older.Goals as goal
 
-pub index-requires : goal.index-requires
-index-requires c =
+pub at-requires : goal.at-requires
+at-requires c =
     let l = c.args.self.now in
     let js = l.joints.items in
     let cs = l.contents.items in
     let us = l.uppers.items in
-    omega (arith, c.requires, nodes-length js cs us, l.joints.ok)
+    omega (arith, c.requires, nodes-length js cs us)
 
 pub returns : goal.returns
 returns c =
@@ -17,5 +17,5 @@ returns c =
     let js = l.joints.items in
     let cs = l.contents.items in
     let us = l.uppers.items in
-    joint-part (λ (x : Node). x.older) js cs us c.args.place c.index.result.now c.requires
-    c.index.ensures
+    joint-part (λ (x : Node). x.older) js cs us c.args.place c.at.result.now c.requires
+    c.at.ensures

@@ -1,5 +1,4 @@
-use Rattle.std.proofs.Common.{◌∙◌, sym, ap, arith, length}
-use Rattle.std.specs.Prelude.{slice_set}
+use Rattle.std.proofs.Common.{◌∙◌, ap, ap₂, arith, length, List}
 use Rattle.std.proofs.lemmas.List.{length-set}
 use Rattle.value_data.specs.declared.value.Value.{Value}
 use Rattle.version_rings.specs.Inside.Parts.{nodes_of}
@@ -15,21 +14,21 @@ put_upper-requires c =
     let us = l.uppers.items in
     omega (arith, c.requires, nodes-length js cs us, l.fits, l.uppers_fit)
 
-pub index_mut-requires : goal.index_mut-requires
-index_mut-requires c =
+pub set-requires : goal.set-requires
+set-requires c =
     let l = c.args.self.now in
     let js = l.joints.items in
     let cs = l.contents.items in
     let us = l.uppers.items in
-    omega (arith, c.requires, nodes-length js cs us, l.joints.ok)
+    omega (arith, c.requires, nodes-length js cs us)
 
-pub index_mut-requires-2 : goal.index_mut-requires-2
-index_mut-requires-2 c =
+pub replace-requires : goal.replace-requires
+replace-requires c =
     let l = c.args.self.now in
     let js = l.joints.items in
     let cs = l.contents.items in
     let us = l.uppers.items in
-    omega (arith, c.requires, nodes-length js cs us, l.even, l.contents.ok)
+    omega (arith, c.requires, nodes-length js cs us, l.even)
 
 pub invariant_of-self : goal.invariant_of-self
 invariant_of-self c =
@@ -38,20 +37,34 @@ invariant_of-self c =
     let cs = l.contents.items in
     let us = l.uppers.items in
     let i = c.args.place in
-    let j : Joint = record {
+    let within = in-joints js cs us i c.requires in
+    let joints = ap length c.set.ensures.items in
+    let joints-same = length-set js i (record {
       lower = c.lower_half.result;
       older = c.args.node.older;
       newer = c.args.node.newer;
-    } in
-    let within = in-joints js cs us i c.requires in
+    }) in
+    let contents = ap length c.replace.ensures.items in
+    let contents-same = length-set cs i c.args.node.content in
     record {
       few = l.few;
-      even = length-set cs i c.replace.new.dest ∙ l.even ∙ sym (length-set js i j);
-      fewer = omega (arith, c.put_upper.ensures.few (length js) within l.fewer, length-set js i j);
-      fits = omega (arith, l.fits, length-set js i j);
-      joints_fit = l.joints_fit;
-      contents_fit = l.contents_fit;
-      uppers_fit = omega (arith, l.uppers_fit, c.put_upper.ensures.capacity);
+      even = omega (arith, joints, joints-same, contents, contents-same, l.even);
+      fewer = omega (
+        arith,
+        c.put_upper.ensures.few (length js) within l.fewer,
+        joints,
+        joints-same,
+      );
+      fits = omega (arith, l.fits, joints, joints-same);
+      joints_fit = omega (arith, l.joints_fit, joints, joints-same, c.set.ensures.room);
+      contents_fit = omega (
+        arith,
+        l.contents_fit,
+        contents,
+        contents-same,
+        c.replace.ensures.room,
+      );
+      uppers_fit = omega (arith, l.uppers_fit, c.put_upper.ensures.fitting);
     }
 
 pub returns-clause-nodes : goal.returns-clause-nodes
@@ -60,13 +73,8 @@ returns-clause-nodes c =
     let js = l.joints.items in
     let cs = l.contents.items in
     let us = l.uppers.items in
-    let j : Joint = record {
-      lower = c.lower_half.result;
-      older = c.args.node.older;
-      newer = c.args.node.newer;
-    } in
-    ap (λ (v : Value). nodes_of (slice_set js c.args.place j) (slice_set cs c.args.place v)
-    c.put_upper.new.uppers.items) c.replace.ensures.after
+    ap₂ (λ (xs : List Joint) (ys : List Value). nodes_of xs ys c.put_upper.new.uppers.items)
+    c.set.ensures.items c.replace.ensures.items
     ∙ node-set js cs us c.put_upper.new.uppers.items c.args.place c.upper_half.result
     c.lower_half.result c.args.node l.even c.requires c.upper_half.ensures c.lower_half.ensures
     c.put_upper.ensures.here c.put_upper.ensures.others

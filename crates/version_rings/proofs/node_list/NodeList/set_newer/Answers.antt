@@ -1,14 +1,24 @@
-use Rattle.std.proofs.Common.{arith}
+use Rattle.std.proofs.Common.{◌∙◌, ap, arith, List}
+use Rattle.version_rings.specs.Inside.Parts.{nodes_of}
+use Rattle.version_rings.specs.declared.node.Joint.{Joint}
 use Rattle.version_rings.proofs.Parts.{nodes-length, newer-set}
 use Rattle.version_rings.proofs.node_list.NodeList.set_newer.Goals as goal
 
-pub index_mut-requires : goal.index_mut-requires
-index_mut-requires c =
+pub at-joint-requires : goal.at-joint-requires
+at-joint-requires c =
     let l = c.args.self.now in
     let js = l.joints.items in
     let cs = l.contents.items in
     let us = l.uppers.items in
-    omega (arith, c.requires, nodes-length js cs us, l.joints.ok)
+    omega (arith, c.requires, nodes-length js cs us)
+
+pub set-requires : goal.set-requires
+set-requires c =
+    let l = c.args.self.now in
+    let js = l.joints.items in
+    let cs = l.contents.items in
+    let us = l.uppers.items in
+    omega (arith, c.requires, nodes-length js cs us)
 
 pub returns-clause-nodes : goal.returns-clause-nodes
 returns-clause-nodes c =
@@ -16,5 +26,5 @@ returns-clause-nodes c =
     let js = l.joints.items in
     let cs = l.contents.items in
     let us = l.uppers.items in
-    newer-set js cs us c.args.place c.args.newer c.index_mut.result.now c.requires
-    c.index_mut.ensures.value
+    ap (λ (xs : List Joint). nodes_of xs cs us) c.set.ensures.items
+    ∙ newer-set js cs us c.args.place c.args.newer c.at-joint.result.now c.requires c.at-joint.ensures

@@ -1,5 +1,6 @@
 use Rattle.std.proofs.Common.{refl, sym, List, [], Option, subst}
 use Rattle.version_rings.specs.Inside.Nodes.{Space}
+use Rattle.version_rings.specs.Inside.Table.{rings_of}
 use Rattle.version_rings.specs.Inside.Sound.{IsSound}
 use Rattle.version_rings.specs.declared.node.Ring.{Ring}
 use Rattle.version_rings.proofs.rings.Rings.new.Goals as goal
@@ -15,6 +16,6 @@ nothing = record {
 
 pub invariant_of-result : goal.invariant_of-result
 invariant_of-result c =
-    subst (λ (s : Space). IsSound s c.new-2.result.slots) (sym c.new.ensures.space)
+    subst (λ (s : Space). IsSound s (rings_of c.new-2.result)) (sym c.new.ensures.space)
     (subst (λ (rings : List (Option Ring)). IsSound (record { nodes = []; first = 0; free = 0 })
-    rings) (sym c.new-2.ensures.empty) nothing)
+    rings) (sym c.new-2.ensures) nothing)
