@@ -1,36 +1,17 @@
 -- What one stream comes to, served by a server that was just made.
-use Rattle.std.specs.Prelude.{◌≡◌, ⊤, ℕ, Bool, List, Option, Result, Err}
+use Rattle.std.specs.Prelude.{◌≡◌, ⊤, Result, Err}
 use Rattle.repl_values.specs.Failure.{Failure}
 use Rattle.repl_values.specs.declared.fault.Fault.{Fault}
 use Rattle.server_rules.specs.Ground.{Ground}
 use Rattle.server_rules.specs.LoneTurns.{opened_lone}
 use Rattle.nrepl_pipe.specs.Failing.{TellsFailures}
-use Rattle.nrepl_pipe.specs.Reads.{ReadAt, ReadsPromptly, HoldsNothingBack}
+use Rattle.nrepl_pipe.specs.Ports.{Input, Output}
+use Rattle.nrepl_pipe.specs.Reads.{ReadsPromptly, HoldsNothingBack}
 use Rattle.nrepl_pipe.specs.Served.{IsPipeOutcome}
 use Rattle.nrepl_pipe.specs.declared.ends.PipeEnd.{PipeEnd}
 use Rattle.nrepl_pipe.specs.declared.ends.PipeError.{PipeError}
 use Rattle.repl_core.specs.Configured.{IsConfigured, TextFaults}
 use Rattle.repl_core.specs.declared.machine.Config.{Config}
-
--- what is known of a reader: the bytes that reads will give, whether a read has failed, and the
--- reads that were made
-pub record Input : Type 0 where
-  pub remaining : Option (List ℕ)
-  pub failed : Option Bool
-  pub reads : Option (List ReadAt)
-
-abbrev pub input : Option (List ℕ) → Option Bool → Option (List ReadAt) → Input
-input remaining failed reads = record { remaining = remaining; failed = failed; reads = reads }
-
--- what is known of a writer: the bytes that were written, those of them that were passed on, and
--- whether a write has failed
-pub record Output : Type 0 where
-  pub contents : Option (List ℕ)
-  pub passed : Option (List ℕ)
-  pub failed : Option Bool
-
-abbrev pub output : Option (List ℕ) → Option (List ℕ) → Option Bool → Output
-output contents passed failed = record { contents = contents; passed = passed; failed = failed }
 
 -- there is something on which such a server stands, so its text has no fault; unless the end tells
 -- of a fault or of refused memory

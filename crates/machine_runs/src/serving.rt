@@ -11,7 +11,8 @@ ghost use Rattle.nrepl_pipe.specs.declared.ends.PipeError.{PipeError};
 ghost use Rattle.repl_core.specs.Configured.{IsConfigured, TextFaults};
 ghost use Rattle.repl_values.specs.Inside.FaultView.{failure_of};
 ghost use Rattle.repl_values.specs.declared.fault.Fault.{Fault};
-ghost use Rattle.machine_runs.specs.Streams.{input, output, IsGrounded, ServesStream};
+ghost use Rattle.machine_runs.specs.Streams.{IsGrounded, ServesStream};
+ghost use Rattle.nrepl_pipe.specs.Ports.{input, output};
 
 use crate::runner::Runner;
 use nrepl_pipe::{PipeEnd, PipeError, Sink, Source, exit_status, serve_stream};

@@ -2,3 +2,4 @@
 -- code, and proofs, and none of the rules.
 pub mod Fresh
 pub mod Parts
+pub mod OneTenant

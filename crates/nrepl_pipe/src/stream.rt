@@ -6,10 +6,11 @@ ghost use Rattle.server_rules.specs.Ground.{Ground};
 ghost use Rattle.server_rules.specs.Grounds.{IsRight};
 ghost use Rattle.server_rules.specs.LoneTurns.{LoneTenant, hears, lone_step};
 ghost use Rattle.nrepl_pipe.specs.Schedule.{stream_end};
-ghost use Rattle.nrepl_pipe.specs.Served.{IsPipeOutcome};
-ghost use Rattle.nrepl_pipe.specs.Reads.{ReadsSince, ReadsPromptly, HoldsNothingBack};
-ghost use Rattle.nrepl_pipe.specs.Inside.Fresh.{IsFresh, IsReady};
-ghost use Rattle.nrepl_pipe.specs.Failing.{MarksFailure, TellsFailures, is_read_failed, is_text_fault};
+ghost use Rattle.nrepl_pipe.specs.Ports.{input, output};
+ghost use Rattle.nrepl_pipe.specs.Reads.{ReadsSince};
+ghost use Rattle.nrepl_pipe.specs.Inside.Fresh.{IsReady};
+ghost use Rattle.nrepl_pipe.specs.Inside.OneTenant.{ServesTenant};
+ghost use Rattle.nrepl_pipe.specs.Failing.{MarksFailure, is_read_failed, is_text_fault};
 ghost use Rattle.nrepl_pipe.specs.Failing.{is_write_failed};
 ghost use Rattle.nrepl_pipe.specs.Inside.Parts.{IsPiece, LosesPiece, HearsSo};
 ghost use Rattle.nrepl_pipe.specs.declared.stream.TheConstants.{PIECE};
@@ -42,18 +43,11 @@ pub fn serve_stream<C: Core, R: Source, W: Sink>(
     reader: &mut R,
     writer: &mut W,
 ) -> Result<PipeEnd, PipeError>
-    ensures served { (g : Ground) (l : LoneTenant) → IsRight g → C.stands g core.old l → IsFresh l
-        → IsPipeOutcome g l (R.remaining reader.old) (R.remaining reader.new)
-        (W.contents writer.old) (W.contents writer.new) result }
-    ensures prompt { (g : Ground) (l : LoneTenant) → IsRight g → C.stands g core.old l → IsFresh l
-        → ReadsPromptly g l (R.remaining reader.old) (W.contents writer.old)
-        (R.reads reader.old) (R.reads reader.new) }
-    ensures passed { HoldsNothingBack (W.contents writer.old) (W.passed writer.old)
-        (W.contents writer.new) (W.passed writer.new) (R.reads reader.old) (R.reads reader.new)
-        result }
-    ensures told { TellsFailures (R.failed reader.old) (R.failed reader.new)
-        (W.failed writer.old) (W.failed writer.new) result }
-    ensures no_text { is_text_fault result ≡ false }
+    ensures { ServesTenant (λ g l. C.stands g core.old l)
+        (input (R.remaining reader.old) (R.failed reader.old) (R.reads reader.old))
+        (input (R.remaining reader.new) (R.failed reader.new) (R.reads reader.new))
+        (output (W.contents writer.old) (W.passed writer.old) (W.failed writer.old))
+        (output (W.contents writer.new) (W.passed writer.new) (W.failed writer.new)) result }
 {
     let mut buffer = [0u8; PIECE];
     loop {

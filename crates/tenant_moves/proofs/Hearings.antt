@@ -26,7 +26,7 @@ use Rattle.server_rules.specs.Request.{Waiting}
 use Rattle.server_rules.specs.Tenant.{ActorData, seat_of, TenantState, with_replies}
 use Rattle.server_rules.specs.declared.actor.Actor.{Actor}
 use Rattle.std.specs.Prelude.{OnErr}
-use Rattle.tenant_moves.specs.Heard.{IsHeard, Parts}
+use Rattle.tenant_moves.specs.Heard.{IsHeard, HearingParts}
 use Rattle.tenant_moves.specs.Holds.{PartsStandFor}
 use Rattle.tenant_moves.specs.HasReadAll.{HasReadAll}
 use Rattle.tenant_moves.specs.Handled.{told_broken, with_piece}
@@ -129,13 +129,13 @@ none-ready-back d (Some e) none = refl
 
 pub parts-same : {s u : NamedSessions} {es fs : List (Entry ActorData)} {vs ws : List (List ℕ)}
     → s ≡ u → es ≡ fs → vs ≡ ws
-    → ◌≡◌ {A = Parts} (record { sessions = s; actors = es; waiting = vs })
+    → ◌≡◌ {A = HearingParts} (record { sessions = s; actors = es; waiting = vs })
     (record { sessions = u; actors = fs; waiting = ws })
 parts-same {s} {u} {es} {fs} {vs} {ws} sessions actors waiting =
-    let first : NamedSessions → Parts = λ x. record { sessions = x; actors = es; waiting = vs } in
-    let second : List (Entry ActorData) → Parts =
+    let first : NamedSessions → HearingParts = λ x. record { sessions = x; actors = es; waiting = vs } in
+    let second : List (Entry ActorData) → HearingParts =
     λ x. record { sessions = u; actors = x; waiting = vs } in
-    let third : List (List ℕ) → Parts = λ x. record { sessions = u; actors = fs; waiting = x } in
+    let third : List (List ℕ) → HearingParts = λ x. record { sessions = u; actors = fs; waiting = x } in
     ap first sessions ∙ ap second actors ∙ ap third waiting
 
 pub on-err : {T E : Type 0} {P : Type 0} (v : Result T E) → P → OnErr v P

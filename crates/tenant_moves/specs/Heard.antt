@@ -23,12 +23,12 @@ pub record IsHeard (g : Ground) (t : ℕ) (q : TenantState) (piece : List ℕ) (
   pub holds : PartsStandFor g t (taken_in g t piece q) s es waiting
 
 -- the parts of a tenant that a piece changes, beside its decoder
-pub record Parts : Type 0 where
+pub record HearingParts : Type 0 where
   pub sessions : NamedSessions
   pub actors : List (Entry ActorData)
   pub waiting : List (List ℕ)
 
-abbrev pub parts_of : NamedSessions → Actors → Outbox → Parts
+abbrev pub parts_of : NamedSessions → Actors → Outbox → HearingParts
 parts_of sessions actors outbox = record {
   sessions = sessions;
   actors = actors_view actors;
@@ -36,18 +36,18 @@ parts_of sessions actors outbox = record {
 }
 
 -- a decoder that met no fault, whose messages are all taken, and the parts of a tenant
-pub record CanHear (d : Decoder) (p : Parts) : Type 0 where
+pub record CanHear (d : Decoder) (p : HearingParts) : Type 0 where
   pub ready : ready_of d ≡ []
   pub sound : fault_of d ≡ None
   pub seated : AreSeated p.sessions p.actors
 
 -- whatever tenant they are of, they are behind the piece as the rules have it
-abbrev pub HearsPiece : {E : Type 0} → List ℕ → Decoder → Parts → Result ℕ E → Decoder → Parts → Type 0
+abbrev pub HearsPiece : {E : Type 0} → List ℕ → Decoder → HearingParts → Result ℕ E → Decoder → HearingParts → Type 0
 HearsPiece piece d p result new after = (g : Ground) (t : ℕ) (q : TenantState) → AreRight g.readings
     → HasReadAll g q.heard d → PartsStandFor g t q p.sessions p.actors p.waiting
     → IfOk result (λ count. IsHeard g t q piece count new after.sessions after.actors after.waiting)
 
 -- where it fails the decoder has read what it had, and the parts are as they were
-abbrev pub HearsNothing : {E : Type 0} → Decoder → Parts → Result ℕ E → Decoder → Parts → Type 0
+abbrev pub HearsNothing : {E : Type 0} → Decoder → HearingParts → Result ℕ E → Decoder → HearingParts → Type 0
 HearsNothing d p result new after = OnErr result
     (((g : Ground) (bytes : List ℕ) → HasReadAll g bytes d → HasReadAll g bytes new) × (after ≡ p))
