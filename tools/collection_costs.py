@@ -15,8 +15,8 @@ import sys
 
 from costs import SERVER, evaluated
 
-# Calls in a request, and requests that are counted.
-CALLS, REQUESTS = 1000, 50
+# Calls in a request, requests that are counted, and runs, of which the shortest counts.
+CALLS, REQUESTS, RUNS = 1000, 50, 3
 # Integers of a collection that one message spells.
 AT_ONCE = 60_000
 COUNTS = (1_000, 30_000, 1_000_000)
@@ -64,7 +64,10 @@ def making(kind, empty, count):
 def time_of_call(call, made):
     """Microseconds of processor time that one such call takes, behind these forms."""
     request = f"(let [v v k k] {' '.join([call] * CALLS)} nil)"
-    few, many = (processor_time([*made, *[request] * it]) for it in (REQUESTS, 3 * REQUESTS))
+    few, many = (
+        min(processor_time([*made, *[request] * it]) for _ in range(RUNS))
+        for it in (REQUESTS, 3 * REQUESTS)
+    )
     return 1e6 * (many - few) / (2 * REQUESTS * CALLS)
 
 
