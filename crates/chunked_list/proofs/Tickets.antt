@@ -1,10 +1,11 @@
 -- How many numbers are less than one, and lists from which one is taken out.
-use Rattle.std.proofs.Common.{◌≡◌, ⊎_elim, ℕ, zero, suc, ◌+◌, ◌-◌, ◌<◌, ◌≤◌, min, List, [], ◌∷◌, ◌++◌, length, get_or, take, drop, map, refl, sym, ap, ◌∙◌, arith}
+use Rattle.std.proofs.Common.{◌≡◌, ⊎_elim, ℕ, zero, suc, ◌+◌, ◌-◌, ◌<◌, ◌≤◌, min, List, [], ◌∷◌, ◌++◌, length, get_or, take, drop, map, refl, sym, ap, ◌∙◌, subst, Some, slice_get, false, ◌==◌, arith}
 use Rattle.std.specs.List.{insert, remove}
 use Rattle.std.proofs.lemmas.Bool.{cases_lt}
-use Rattle.std.proofs.lemmas.List.{length-map, get_or-map}
+use Rattle.std.proofs.lemmas.List.{length-map, get_or-map, length-append, get_or_append_left, get_or-append-add}
 use Rattle.std.proofs.lemmas.List.Edits.{length-insert, length-remove, get_or-remove_below, get_or-remove_above}
 use Rattle.std.proofs.lemmas.List.Edits.{get_or-insert_below, get_or-insert_at}
+use Rattle.chunked_list.specs.Nodes.{numbers_last}
 use Rattle.chunked_list.specs.Places.{lowered, without_place, below, places_of, Rises, KeepsTickets}
 
 pub below-append : (m : ℕ) (xs ys : List ℕ) → below m (xs ++ ys) ≡ below m xs + below m ys
@@ -24,7 +25,7 @@ below-remove m [] i h = absurd (omega (arith, h))
 below-remove m (x ∷ xs) zero h = omega arith
 below-remove m (x ∷ xs) (suc i) h = omega (arith, below-remove m xs i (omega (arith, h)))
 
-below-most : (m : ℕ) (xs : List ℕ) → below m xs ≤ length xs
+pub below-most : (m : ℕ) (xs : List ℕ) → below m xs ≤ length xs
 below-most m [] = omega arith
 below-most m (x ∷ xs) = omega (arith, below-most m xs)
 
@@ -43,6 +44,102 @@ below-split m [] low h f g = omega (arith, h)
 below-split m (x ∷ xs) zero h f g = omega (arith, g 0 (omega arith) (omega arith), below-split m xs zero (omega arith) (λ i l. absurd (omega (arith, l))) (λ i l k. g (suc i) (omega arith) (omega (arith, k))))
 below-split m (x ∷ xs) (suc low) h f g =
     omega (arith, f 0 (omega arith), below-split m xs low (omega (arith, h)) (λ i l. f (suc i) (omega (arith, l))) (λ i l k. g (suc i) (omega (arith, l)) (omega (arith, k))))
+
+-- ---- of two lists that rise one behind the other
+
+rises-front : (xs ys : List ℕ) → Rises (xs ++ ys) → Rises xs
+rises-front xs ys r i j l m =
+    omega (
+      arith,
+      get_or_append_left xs ys 0 i (omega (arith, l, m)),
+      get_or_append_left xs ys 0 j m,
+      r i j l (omega (arith, m, length-append xs ys)),
+    )
+
+rises-rest : (xs ys : List ℕ) → Rises (xs ++ ys) → Rises ys
+rises-rest [] ys r = r
+rises-rest (x ∷ xs) ys r = rises-rest xs ys (λ i j l m. r (suc i) (suc j) (omega (arith, l)) (omega (arith, m)))
+
+last-got : (xs : List ℕ) (n : ℕ) → n + 1 ≡ length xs → numbers_last xs ≡ get_or xs n 0
+last-got [] n e = absurd (omega (arith, e))
+last-got (x ∷ []) zero e = refl
+last-got (x ∷ []) (suc n) e = absurd (omega (arith, e))
+last-got (x ∷ y ∷ ys) zero e = absurd (omega (arith, e))
+last-got (x ∷ y ∷ ys) (suc n) e = last-got (y ∷ ys) n (omega (arith, e))
+
+not-above-last : (xs : List ℕ) → Rises xs → (k : ℕ) → k < length xs → get_or xs k 0 ≤ numbers_last xs
+not-above-last xs r k l =
+    let end : numbers_last xs ≡ get_or xs (length xs - 1) 0 = last-got xs (length xs - 1) (omega (arith, l)) in
+    ⊎_elim
+    (λ (a : k < length xs - 1). omega (arith, end, r k (length xs - 1) a (omega (arith, l))))
+    (λ (a : length xs - 1 ≤ k).
+    let e : k ≡ length xs - 1 = omega (arith, a, l) in
+    let at : get_or xs k 0 ≡ get_or xs (length xs - 1) 0 = ap (λ (i : ℕ). get_or xs i 0) e in
+    omega (arith, end, at))
+    (cases_lt k (length xs - 1))
+
+pub below-both : (m : ℕ) (xs ys zs : List ℕ) → zs ≡ xs ++ ys → Rises zs → numbers_last xs < m → below m zs ≡ length xs + below m ys
+below-both m xs ys zs e r h =
+    let rising : Rises (xs ++ ys) = subst Rises e r in
+    omega (
+      arith,
+      ap (below m) e,
+      below-append m xs ys,
+      below-all m xs (λ k l. omega (arith, h, not-above-last xs (rises-front xs ys rising) k l)),
+    )
+
+pub below-front : (m : ℕ) (xs ys zs : List ℕ) → zs ≡ xs ++ ys → Rises zs → m ≤ numbers_last xs → below m zs ≡ below m xs
+below-front m [] ys zs e r h =
+    omega (arith, ap (below m) e, below-split m ys 0 (omega arith) (λ i l. absurd (omega (arith, l))) (λ i l k. omega (arith, h)))
+below-front m (x ∷ xs) ys zs e r h =
+    let rising : Rises ((x ∷ xs) ++ ys) = subst Rises e r in
+    let all = x ∷ xs in
+    let end : numbers_last all ≡ get_or all (length xs) 0 = last-got all (length xs) (omega arith) in
+    let over : (k : ℕ) → k < length ys → m ≤ get_or ys k 0 =
+        λ k l.
+        omega (
+          arith,
+          h,
+          end,
+          get_or_append_left all ys 0 (length xs) (omega arith),
+          get_or-append-add all ys k 0,
+          rising (length xs) (length all + k) (omega arith) (omega (arith, l, length-append all ys)),
+        ) in
+    omega (
+      arith,
+      ap (below m) e,
+      below-append m all ys,
+      below-split m ys 0 (omega arith) (λ i l. absurd (omega (arith, l))) (λ i l k. over i k),
+    )
+
+pub below-whole : (m : ℕ) (xs : List ℕ) → Rises xs → numbers_last xs < m → below m xs ≡ length xs
+below-whole m xs r h = below-all m xs (λ k l. omega (arith, h, not-above-last xs r k l))
+
+pub rises-parts : (xs ys zs : List ℕ) → zs ≡ xs ++ ys → Rises zs → Rises xs × Rises ys
+rises-parts xs ys zs e r = let rising : Rises (xs ++ ys) = subst Rises e r in (rises-front xs ys rising, rises-rest xs ys rising)
+
+pub last-some : (xs ys : List ℕ) → 0 < length ys → numbers_last (xs ++ ys) ≡ numbers_last ys
+last-some [] ys h = refl
+last-some (x ∷ xs) [] h = absurd (omega (arith, h))
+last-some (x ∷ []) (y ∷ ys) h = refl
+last-some (x ∷ z ∷ zs) (y ∷ ys) h = last-some (z ∷ zs) (y ∷ ys) h
+
+pub last-got-slice : (xs : List ℕ) (v : ℕ) → Some v ≡ slice_get xs (length xs - 1) → v ≡ numbers_last xs
+last-got-slice [] v h = absurd (cc)
+last-got-slice (x ∷ xs) v h = at (x ∷ xs) (length (x ∷ xs) - 1) (omega arith) h
+  where
+    at : (ys : List ℕ) (n : ℕ) → n + 1 ≡ length ys → Some v ≡ slice_get ys n → v ≡ numbers_last ys
+    at [] n e i = absurd (omega (arith, e))
+    at (y ∷ []) zero e i = cc
+    at (y ∷ []) (suc n) e i = absurd (omega (arith, e))
+    at (y ∷ z ∷ ys) zero e i = absurd (omega (arith, e))
+    at (y ∷ z ∷ ys) (suc n) e i = at (z ∷ ys) n (omega (arith, e)) i
+
+pub some-there : (ys : List ℕ) → (length ys == 0) ≡ false → 0 < length ys
+some-there [] e = absurd (cc)
+some-there (y ∷ ys) e = omega arith
+
+-- ---- one number less
 
 below-more : (m n : ℕ) (xs : List ℕ) → m ≤ n → below m xs ≤ below n xs
 below-more m n [] h = omega arith

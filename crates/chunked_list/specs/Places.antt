@@ -1,6 +1,6 @@
 -- Places in the order of their ranks, and the tickets that are kept in their stead.
-use Rattle.std.specs.Prelude.{◌≡◌, ℕ, ◌+◌, ◌-◌, ◌<◌, min, List, [], ◌∷◌, length, map}
-use Rattle.std.specs.Prelude.{slice_index_or}
+use Rattle.std.specs.Prelude.{◌≡◌, ℕ, zero, suc, ◌+◌, ◌-◌, ◌<◌, min, List, [], ◌∷◌, ◌++◌, length}
+use Rattle.std.specs.Prelude.{map, slice_index_or}
 use Rattle.std.specs.List.{remove}
 
 -- a place where another one is taken out: one less, if it is behind that
@@ -10,6 +10,11 @@ lowered gone n = n - min 1 (n - gone)
 -- the places without that of a rank
 abbrev pub without_place : ℕ → List ℕ → List ℕ
 without_place rank places = map (lowered (slice_index_or places rank 0)) (remove places rank)
+
+-- 0, 1, .. up to so many
+abbrev pub first_places : ℕ → List ℕ
+first_places zero = []
+first_places (suc n) = first_places n ++ n ∷ []
 
 -- how many of the numbers are less than m
 abbrev pub below : ℕ → List ℕ → ℕ

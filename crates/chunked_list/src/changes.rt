@@ -4,7 +4,8 @@ ghost use Rattle.std.specs.List.{insert};
 ghost use Rattle.chunked_list.specs.Nodes.{shown, held, Keeps};
 ghost use Rattle.chunked_list.specs.Changes.{changed, HasPlace};
 
-use crate::forks::{LEAF, fork, leaf, single};
+use crate::forks::{LEAF, fork, last_of_both, leaf, single};
+use crate::reads::last_number;
 use crate::tree::{Node, Shape, Tree};
 use std::alloc::{AllocError, Global};
 use std::sync::Arc;
@@ -67,6 +68,7 @@ fn change_node(
         Shape::Leaf(items) => {
             change_items(items, place, change)?;
             node.len = items.len();
+            node.last = last_number(items);
             Ok(())
         }
         Shape::Fork(left, right) => {
@@ -77,6 +79,7 @@ fn change_node(
                 right.change(alloc, place - before, change)?;
             }
             node.len = left.len() + right.len();
+            node.last = last_of_both(left, right);
             node.height = left.height().max(right.height()).saturating_add(1);
             Ok(())
         }

@@ -35,6 +35,7 @@ fn copy_node(alloc: Global, node: &Node) -> Result<Node, AllocError>
     let shape = copy_shape(alloc, &node.shape)?;
     Ok(Node {
         len: node.len,
+        last: node.last,
         height: node.height,
         shape,
     })

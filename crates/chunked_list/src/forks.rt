@@ -1,6 +1,8 @@
 // Leaves and forks, and forks of trees of unlike heights.
 ghost use Rattle.std.specs.Prelude.{◌≡◌, [], ◌∷◌, ◌++◌, IfOk, IfSome};
+ghost use Rattle.chunked_list.specs.Nodes.{numbers_last};
 
+use crate::reads::last_number;
 use crate::tree::{Node, Shape, Tree};
 use std::alloc::{AllocError, Global};
 use std::sync::Arc;
@@ -14,6 +16,7 @@ pub(crate) fn leaf(alloc: Global, items: Vec<usize>) -> Result<Tree, AllocError>
 {
     let node = Node {
         len: items.len(),
+        last: last_number(&items),
         height: 0,
         shape: Shape::Leaf(items),
     };
@@ -40,11 +43,34 @@ pub(crate) fn fork(alloc: Global, left: Tree, right: Tree) -> Result<Tree, Alloc
     let height = left.height().max(right.height()).saturating_add(1);
     let node = Node {
         len,
+        last: last_of_both(&left, &right),
         height,
         shape: Shape::Fork(left, right),
     };
     let node = Arc::new(alloc, node)?;
     Ok(Tree { node })
+}
+
+// The last number of the right tree, or of the left one where the right one has none.
+pub(crate) fn last_of_both(left: &Tree, right: &Tree) -> usize
+    ensures { result ≡ numbers_last (left.now.items ++ right.now.items) }
+{
+    if right.is_empty() {
+        left.last()
+    } else {
+        right.last()
+    }
+}
+
+// A tree of these numbers, whose leaves have as many or one fewer. It fails only for want of memory.
+pub(crate) fn tree_of(alloc: Global, numbers: &[usize]) -> Result<Tree, AllocError>
+    ensures { IfOk result (λ made. made.items ≡ numbers.now) }
+{
+    if numbers.len() <= LEAF {
+        return leaf(alloc, Vec::from_slice(alloc, numbers)?);
+    }
+    let (before, behind) = numbers.split_at(numbers.len() / 2);
+    fork(alloc, tree_of(alloc, before)?, tree_of(alloc, behind)?)
 }
 
 // The numbers of both, in one leaf, where both are small leaves.

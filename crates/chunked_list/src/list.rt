@@ -1,9 +1,10 @@
 // The list and its calls.
 ghost use Rattle.std.specs.Prelude.{◌≡◌, ◌<◌, ◌≤◌, [], length, slice_index_or, IfOk, OnOk, OnErr};
 ghost use Rattle.std.specs.List.{insert, remove};
+ghost use Rattle.chunked_list.specs.Places.{below, Rises};
 
 use crate::changes::Change;
-use crate::forks::single;
+use crate::forks::{single, tree_of};
 use crate::tree::Tree;
 use std::alloc::{AllocError, Global};
 use std::marker::Model;
@@ -55,6 +56,26 @@ impl ChunkedList {
         match &self.root {
             Some(tree) => tree.at(place),
             None => unreachable!(),
+        }
+    }
+
+    /// These numbers in their order. It fails only for want of memory.
+    pub fn from_slice(alloc: Global, numbers: &[usize]) -> Result<ChunkedList, AllocError>
+        ensures { IfOk result (λ made. made ≡ numbers.now) }
+    {
+        Ok(ChunkedList {
+            root: Some(tree_of(alloc, numbers)?),
+        })
+    }
+
+    // How many of the numbers, which rise, are less than this one.
+    pub(crate) fn count_below(&self, number: usize) -> usize
+        requires { Rises self.now }
+        ensures { result ≡ below number self.now }
+    {
+        match &self.root {
+            Some(tree) => tree.count_below(number),
+            None => 0,
         }
     }
 

@@ -1,7 +1,8 @@
 // Places of items, in an order that is the caller's.
-ghost use Rattle.std.specs.Prelude.{◌≡◌, ◌<◌, ◌≤◌, [], length, slice_index_or, IfOk};
+ghost use Rattle.std.specs.Prelude.{◌≡◌, ◌<◌, ◌≤◌, [], length, slice_index_or, IsPermutation};
+ghost use Rattle.std.specs.Prelude.{IfOk};
 ghost use Rattle.std.specs.List.{insert};
-ghost use Rattle.chunked_list.specs.Places.{without_place, below, Rises};
+ghost use Rattle.chunked_list.specs.Places.{without_place, first_places};
 
 use crate::list::ChunkedList;
 use std::alloc::{AllocError, Global};
@@ -10,8 +11,8 @@ use std::marker::Model;
 /// The places 0, 1, .. of items, by ranks that the caller gives them. A new item has the place
 /// behind all others; where one goes, each place behind its own is one less.
 ///
-/// To find the place of a rank, to put in one and to take out one takes a logarithm of steps, or its
-/// square: an item has a ticket that it keeps, and its place is the number of lesser tickets.
+/// To find the place of a rank, to put in one and to take out one takes a logarithm of steps: an item
+/// has a ticket that it keeps, and its place is the number of lesser tickets.
 #[derive(Debug, Drop)]
 pub struct RankedPlaces {
     // in the order of the items, which is their own
@@ -47,6 +48,20 @@ impl RankedPlaces {
         }
     }
 
+    /// Each of the places 0, 1, .. by its rank, as they stand in this order. It fails only for want
+    /// of memory.
+    pub fn in_order(alloc: Global, order: &[usize]) -> Result<RankedPlaces, AllocError>
+        requires { IsPermutation (first_places (length order.now)) order.now }
+        ensures { IfOk result (λ made. made ≡ order.now) }
+    {
+        let tickets = first_places(alloc, order.len())?;
+        Ok(RankedPlaces {
+            tickets: ChunkedList::from_slice(alloc, &tickets)?,
+            ranked: ChunkedList::from_slice(alloc, order)?,
+            next: order.len(),
+        })
+    }
+
     /// The place of the item of a rank, counted from 0.
     pub fn at(&self, rank: usize) -> usize
         requires { rank < length self.now }
@@ -57,11 +72,11 @@ impl RankedPlaces {
             // No item has gone.
             return ticket;
         }
-        tickets_below(&self.tickets, ticket)
+        self.tickets.count_below(ticket)
     }
 
     /// One more item, which has this rank and stands behind all others. It fails for want of
-    /// memory, or where there were 2^64 items.
+    /// memory, or where there were 2^64 - 1 items.
     pub fn with_next(self, alloc: Global, rank: usize) -> Result<RankedPlaces, AllocError>
         requires { rank ≤ length self }
         ensures { IfOk result (λ made. made ≡ insert self rank (length self)) }
@@ -94,7 +109,7 @@ impl RankedPlaces {
             mut ranked,
             next,
         } = self;
-        let place = tickets_below(&tickets, ranked.at(rank));
+        let place = tickets.count_below(ranked.at(rank));
         tickets.remove(alloc, place)?;
         ranked.remove(alloc, rank)?;
         Ok(RankedPlaces {
@@ -117,20 +132,13 @@ impl RankedPlaces {
     }
 }
 
-// How many of the tickets, which rise, are less than this one.
-fn tickets_below(tickets: &ChunkedList, ticket: usize) -> usize
-    requires { Rises tickets.now }
-    ensures { result ≡ below ticket tickets.now }
+/// The places 0, 1, .. of so many items. It fails only for want of memory.
+pub fn first_places(alloc: Global, count: usize) -> Result<Vec<usize>, AllocError>
+    ensures { IfOk result (λ made. made.items ≡ first_places count) }
 {
-    let mut low = 0;
-    let mut high = tickets.len();
-    while low < high {
-        let middle = low + (high - low) / 2;
-        if tickets.at(middle) < ticket {
-            low = middle + 1;
-        } else {
-            high = middle;
-        }
+    let mut places = Vec::with_capacity(alloc, count)?;
+    for place in 0..count {
+        places.push(place)?;
     }
-    low
+    Ok(places)
 }

@@ -14,6 +14,8 @@ pub(crate) enum Shape {
 #[derive(Debug, Drop)]
 pub(crate) struct Node {
     pub(crate) len: usize,
+    // the last number, or 0 where there is none
+    pub(crate) last: usize,
     pub(crate) height: u64,
     pub(crate) shape: Shape,
 }

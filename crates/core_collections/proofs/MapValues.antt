@@ -2,7 +2,8 @@
 use Rattle.std.proofs.Common.{◌≡◌, ℤ, ◌<◌, ◌≤◌, List, [], ◌∷◌, ◌++◌, get_or, drop, length, map, option_map, slice_get, Result, Ok, Err, refl, ap, arith}
 use Rattle.value_data.specs.Datum.{Datum, Pairs, no_pairs, pair}
 use Rattle.value_data.specs.Listed.{listed, pairs_listed}
-use Rattle.value_data.specs.Keyed.{keys_of, values_of}
+use Rattle.value_data.specs.Keyed.{keys_of}
+use Rattle.value_data.specs.Inside.Placed.{values_of}
 use Rattle.value_data.specs.Inside.View.{view}
 use Rattle.value_data.specs.declared.value.Value.{Value}
 use Rattle.value_data.proofs.Views.{value_views}

@@ -3,7 +3,8 @@ use Rattle.std.proofs.Common.{◌≡◌, ℕ, ◌+◌, ◌<◌, ◌≤◌, List,
 use Rattle.value_data.specs.Datum.{Datum, Items, no_items, item, Pairs, no_pairs, pair}
 use Rattle.value_data.specs.Listed.{listed, items_of, pairs_listed, pairs_of}
 use Rattle.value_data.specs.Same.{size}
-use Rattle.value_data.specs.Keyed.{keys_of, values_of}
+use Rattle.value_data.specs.Keyed.{keys_of}
+use Rattle.value_data.specs.Inside.Placed.{values_of}
 use Rattle.repl_values.specs.Print.{spelled, texts, pair_texts, each_behind, joined_by}
 use Rattle.repl_values.proofs.Places.{items_of-listed, behind-all, pairs_of-listed, behind-pair, behind-all_pairs}
 

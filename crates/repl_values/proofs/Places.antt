@@ -5,7 +5,8 @@ use Rattle.value_data.specs.Datum.{Datum, Items, no_items, item, Pairs, no_pairs
 use Rattle.value_data.specs.Listed.{listed, items_of, pairs_listed, pairs_of}
 use Rattle.value_data.proofs.Size.{nodes, items_nodes, pairs_nodes}
 use Rattle.value_data.specs.Same.{size}
-use Rattle.value_data.specs.Keyed.{keys_of, values_of}
+use Rattle.value_data.specs.Keyed.{keys_of}
+use Rattle.value_data.specs.Inside.Placed.{values_of}
 
 pub items_of-listed : (xs : Items) → items_of (listed xs) ≡ xs
 items_of-listed no_items = refl

@@ -3,7 +3,8 @@ use Rattle.std.proofs.Common.{◌≡◌, ℕ, zero, suc, ◌+◌, ◌<◌, ◌�
 use Rattle.value_data.specs.Datum.{Datum, nil, Pairs, no_pairs, pair}
 use Rattle.value_data.specs.Listed.{listed, vector_of_two}
 use Rattle.value_data.specs.Same.{size}
-use Rattle.value_data.specs.Keyed.{keys_of, values_of}
+use Rattle.value_data.specs.Keyed.{keys_of}
+use Rattle.value_data.specs.Inside.Placed.{values_of}
 use Rattle.value_data.proofs.Views.{value_views}
 use Rattle.repl_values.proofs.Lists.{lists}
 use Rattle.repl_values.proofs.Places.{length-keys, length-values}

@@ -4,7 +4,8 @@ use Rattle.std.specs.Prelude.{◌/◌, ◌%◌}
 use Rattle.value_data.specs.Datum.{Datum, Pairs, no_pairs, pair}
 use Rattle.value_data.specs.Listed.{listed}
 use Rattle.value_data.specs.Same.{size}
-use Rattle.value_data.specs.Keyed.{keys_of, values_of}
+use Rattle.value_data.specs.Keyed.{keys_of}
+use Rattle.value_data.specs.Inside.Placed.{values_of}
 use Rattle.value_data.proofs.Views.{value_views}
 use Rattle.value_data.proofs.Lists.{listed-of, lists}
 use Rattle.special_forms.specs.Rows.{in_a_row}

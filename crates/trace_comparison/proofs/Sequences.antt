@@ -5,7 +5,8 @@ use Rattle.value_data.specs.Datum.{Datum, Items, Pairs, no_pairs, pair}
 use Rattle.value_data.specs.Listed.{listed, items_of}
 use Rattle.value_data.specs.Inside.View.{view, views}
 use Rattle.value_data.specs.declared.value.Value.{Value}
-use Rattle.value_data.specs.Keyed.{keys_of, values_of}
+use Rattle.value_data.specs.Keyed.{keys_of}
+use Rattle.value_data.specs.Inside.Placed.{values_of}
 use Rattle.value_data.proofs.Nodes.{node_steps}
 use Rattle.value_data.proofs.Size.{items_nodes, pairs_nodes}
 use Rattle.repl_values.proofs.Places.{items_of-listed}

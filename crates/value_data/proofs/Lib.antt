@@ -21,4 +21,5 @@ pub mod Sorted
 pub mod Ties
 pub mod Ranked
 pub mod Searching
+pub mod Ascending
 pub mod Chunks

@@ -37,7 +37,7 @@ first-at (pair k v ps) d (suc n) h e f =
     ap (λ t. if t then Some 0 else option_map (λ n. suc n) (first_place ps d)) (unequal k d (f 0 (omega arith)))
     ∙ ap (option_map (λ (n : ℕ). suc n)) (first-at ps d n (omega (arith, h)) e (λ m l. f (suc m) (omega (arith, l))))
 
-none-at : (ps : Pairs) (d : Datum) → ((m : ℕ) → m < size ps → key_at ps m ≡ sort_key d → ⊥) → first_place ps d ≡ None
+pub none-at : (ps : Pairs) (d : Datum) → ((m : ℕ) → m < size ps → key_at ps m ≡ sort_key d → ⊥) → first_place ps d ≡ None
 none-at no_pairs d f = refl
 none-at (pair k v ps) d f =
     ap (λ t. if t then Some 0 else option_map (λ n. suc n) (first_place ps d)) (unequal k d (f 0 (omega arith)))
@@ -49,7 +49,7 @@ any-default (n ∷ ns) zero a b h = refl
 any-default (n ∷ ns) (suc i) a b h = any-default ns i a b (omega (arith, h))
 
 -- no two ranks have one key
-one-rank : (ns : List ℕ) (ps : Pairs) → Indexes ns ps → (i j : ℕ) → i < length ns → j < length ns → key_at ps (get_or ns i 0) ≡ key_at ps (get_or ns j 0) → i ≡ j
+pub one-rank : (ns : List ℕ) (ps : Pairs) → Indexes ns ps → (i j : ℕ) → i < length ns → j < length ns → key_at ps (get_or ns i 0) ≡ key_at ps (get_or ns j 0) → i ≡ j
 one-rank ns ps h i j k l e =
     ⊎_elim
     (λ (p : i < j). absurd (not-below _ _ e (h.ascending i j p l)))

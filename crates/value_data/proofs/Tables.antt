@@ -7,7 +7,8 @@ use Rattle.value_data.specs.Datum.{Datum, item, Pairs, no_pairs, pair}
 use Rattle.value_data.specs.Listed.{items_of, pairs_of}
 use Rattle.value_data.specs.Inside.Seen.{key_in, value_in}
 use Rattle.value_data.specs.Same.{same}
-use Rattle.value_data.specs.Keyed.{value_under, has_key, keys_of, values_of, nth_value, value_at_place, behind_all}
+use Rattle.value_data.specs.Keyed.{value_under, has_key, keys_of, nth_value, value_at_place, behind_all}
+use Rattle.value_data.specs.Inside.Placed.{values_of}
 use Rattle.value_data.specs.Inside.Placed.{first_place, are_distinct}
 use Rattle.value_data.proofs.Equivalence.{same-sym, and-left, and-right, and-both}
 use Rattle.value_data.proofs.Transitive.{same-trans}

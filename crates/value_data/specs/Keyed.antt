@@ -19,10 +19,6 @@ abbrev pub keys_of : Pairs → Items
 keys_of no_pairs = no_items
 keys_of (pair k v ps) = item k (keys_of ps)
 
-abbrev pub values_of : Pairs → Items
-values_of no_pairs = no_items
-values_of (pair k v ps) = item v (values_of ps)
-
 -- the value at a place
 abbrev pub nth_value : Pairs → ℕ → Option Datum
 nth_value no_pairs n = None

@@ -7,7 +7,7 @@ ghost use Rattle.value_data.specs.Datum.{Datum};
 ghost use Rattle.value_data.specs.Listed.{items_of};
 ghost use Rattle.value_data.specs.Measures.{capped, pairs_weight, pairs_nesting, pairs_are_plain};
 ghost use Rattle.value_data.specs.Inside.Nodes.{entry_pairs};
-ghost use Rattle.value_data.specs.Inside.View.{view};
+ghost use Rattle.value_data.specs.Inside.View.{view, pair_view};
 ghost use Rattle.value_data.specs.Inside.Seen.{entry_view, key_in, value_in};
 
 use crate::node_measures::both;
@@ -22,6 +22,22 @@ impl Entries {
         Ok(Entries {
             keys: Sequence::from_vec(alloc, Vec::new(alloc))?,
             values: Sequence::from_vec(alloc, Vec::new(alloc))?,
+        })
+    }
+
+    // These pairs, whose keys and values are handed over.
+    pub(crate) fn of_pairs(alloc: Global, pairs: Vec<(Value, Value)>) -> Result<Entries, AllocError>
+        ensures { IfOk result (λ made. made.listed ≡ map pair_view pairs.items) }
+    {
+        let mut keys = Vec::with_capacity(alloc, pairs.len())?;
+        let mut values = Vec::with_capacity(alloc, pairs.len())?;
+        for (key, value) in pairs {
+            keys.push(key)?;
+            values.push(value)?;
+        }
+        Ok(Entries {
+            keys: Sequence::from_vec(alloc, keys)?,
+            values: Sequence::from_vec(alloc, values)?,
         })
     }
 

@@ -7,7 +7,8 @@ ghost use Rattle.value_data.specs.Inside.View.{view};
 ghost use Rattle.value_data.specs.Same.{size};
 ghost use Rattle.value_data.specs.Measures.{capped, pairs_weight, pairs_nesting, pairs_are_plain};
 ghost use Rattle.value_data.specs.Inside.Hash.{hash};
-ghost use Rattle.value_data.specs.Keyed.{value_under, keys_of, values_of};
+ghost use Rattle.value_data.specs.Keyed.{value_under, keys_of};
+ghost use Rattle.value_data.specs.Inside.Placed.{values_of};
 ghost use Rattle.value_data.specs.Inside.Placed.{are_distinct};
 
 use crate::places::place_of;

@@ -1,5 +1,5 @@
 -- What a map's index tells: the places of its pairs in the order of their keys.
-use Rattle.std.specs.Prelude.{◌≡◌, ℕ, zero, suc, ◌<◌, ◌≤◌, List, length, slice_index_or}
+use Rattle.std.specs.Prelude.{◌≡◌, ℕ, zero, suc, ◌+◌, ◌<◌, ◌≤◌, List, length, slice_index_or}
 use Rattle.std.specs.Prelude.{map as each, None}
 use Rattle.std.specs.List.{All, Contains}
 use Rattle.std.specs.declared.cmp.Ordering.TheVariants.{Less}
@@ -18,6 +18,12 @@ key_at (pair k v ps) (suc n) = key_at ps n
 pub record ArePlaces (places : List ℕ) (count : ℕ) : Type 0 where
   pub counted : length places ≡ count
   pub within : All (λ n. n < count) places
+
+-- the key at each place is less than that at the next
+abbrev pub Ascend : Pairs → List ℕ → Type 0
+Ascend ps places = (i : ℕ) → i + 1 < length places
+    → order (key_at ps (slice_index_or places i 0)) (key_at ps (slice_index_or places (i + 1) 0))
+    ≡ Less
 
 -- all places, and their keys ascend
 pub record Indexes (places : List ℕ) (ps : Pairs) : Type 0 where

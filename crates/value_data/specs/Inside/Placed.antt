@@ -1,7 +1,7 @@
 -- Pairs by the places of their keys. Contracts of private functions speak of it.
 use Rattle.std.specs.Prelude.{◌≡◌, ℕ, zero, suc, Bool, true, not, ◌&&◌, Option, Some, None}
 use Rattle.std.specs.Prelude.{option_map, if◌then◌else◌}
-use Rattle.value_data.specs.Datum.{Datum, Pairs, no_pairs, pair}
+use Rattle.value_data.specs.Datum.{Datum, Items, no_items, item, Pairs, no_pairs, pair}
 use Rattle.value_data.specs.Same.{same}
 use Rattle.value_data.specs.Keyed.{has_key}
 
@@ -33,3 +33,8 @@ abbrev pub with_value : ℕ → Datum → Pairs → Pairs
 with_value n value no_pairs = no_pairs
 with_value zero value (pair k v ps) = pair k value ps
 with_value (suc n) value (pair k v ps) = pair k v (with_value n value ps)
+
+-- the values in the order of their keys
+abbrev pub values_of : Pairs → Items
+values_of no_pairs = no_items
+values_of (pair k v ps) = item v (values_of ps)

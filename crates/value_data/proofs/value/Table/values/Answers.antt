@@ -1,6 +1,6 @@
 use Rattle.std.proofs.Common.{ap, ◌∙◌}
 use Rattle.value_data.specs.Inside.Held.{TableData}
-use Rattle.value_data.specs.Keyed.{values_of}
+use Rattle.value_data.specs.Inside.Placed.{values_of}
 use Rattle.value_data.specs.Inside.Nodes.{entry_pairs}
 use Rattle.value_data.specs.declared.value.PairsNode.{PairsNode}
 use Rattle.value_data.proofs.Tables.{values-of-pairs}
