@@ -1,17 +1,17 @@
 -- What is awaited behind some bytes is what the frames say that they are the text of.
 use Rattle.std.proofs.Common.{◌≡◌, ℕ, suc, ◌<◌, ◌≤◌, ◌⊎◌, inl, inr, List, [], ◌∷◌, ◌++◌, length, decimal, codes, refl, sym, ap, ◌∙◌, subst, append_assoc, append-nil, arith}
-use Rattle.bencode_wire.specs.Tree.{Trees, no_trees, Pairs, no_pairs, HasKey}
+use Rattle.bencode_wire.specs.Tree.{Trees, no_trees, TreePairs, no_pairs, HasKey}
 use Rattle.bencode_wire.specs.Spelling.{trees_text, pairs_text, string_text, IsLength, ArePairs}
-use Rattle.bencode_wire.specs.Inside.Cut.{Frame, in_list, at_key, at_value, between, count, cut, frames_text, cut_text, IfAny, TakesValue, TakesKey, IsCut}
+use Rattle.bencode_wire.specs.Inside.Cut.{OpenContainer, in_list, at_key, at_value, between, count, cut, frames_text, cut_text, IfAny, TakesValue, TakesKey, IsCut}
 use Rattle.bencode_wire.specs.Stream.{AwaitsValue, behind_items, behind_key, AwaitsKey, of_message, of_value, AwaitsString, RepeatsKey, IsLarge, IsDeep}
 
 -- where the frames around a dictionary say what is awaited, so does the dictionary
-key_by : (ps : Pairs) (fs : List Frame) → ArePairs ps → IfAny fs (TakesValue fs) → (TakesValue fs → AwaitsValue (length fs) (frames_text fs))
+key_by : (ps : TreePairs) (fs : List OpenContainer) → ArePairs ps → IfAny fs (TakesValue fs) → (TakesValue fs → AwaitsValue (length fs) (frames_text fs))
     → AwaitsKey (suc (length fs)) ps (frames_text fs ++ (100 ∷ pairs_text ps))
 key_by ps [] g h outer = of_message ps g
 key_by ps (f ∷ fs) g h outer = of_value (length (f ∷ fs)) (frames_text (f ∷ fs)) ps (outer h) g
 
-value_awaited : (fs : List Frame) → TakesValue fs → AwaitsValue (length fs) (frames_text fs)
+value_awaited : (fs : List OpenContainer) → TakesValue fs → AwaitsValue (length fs) (frames_text fs)
 value_awaited [] h = absurd h
 value_awaited (in_list ts ∷ fs) h = behind_items (length fs) (frames_text fs) ts (value_awaited fs h.1) h.0
 value_awaited (at_key ps ∷ fs) h = absurd h
@@ -19,23 +19,23 @@ value_awaited (at_value ps key ∷ fs) h =
     subst (λ m. AwaitsValue (suc (length fs)) m) (append_assoc (frames_text fs) (100 ∷ pairs_text ps) (string_text key))
     (behind_key (suc (length fs)) ps (frames_text fs ++ (100 ∷ pairs_text ps)) key (key_by ps fs h.0 h.2 (λ g. value_awaited fs g)) h.1)
 
-key_awaited : (ps : Pairs) (fs : List Frame) → ArePairs ps → IfAny fs (TakesValue fs) → AwaitsKey (suc (length fs)) ps (frames_text fs ++ (100 ∷ pairs_text ps))
+key_awaited : (ps : TreePairs) (fs : List OpenContainer) → ArePairs ps → IfAny fs (TakesValue fs) → AwaitsKey (suc (length fs)) ps (frames_text fs ++ (100 ∷ pairs_text ps))
 key_awaited ps fs g h = key_by ps fs g h (value_awaited fs)
 
 record ValueFrames (n : ℕ) (m : List ℕ) : Type 0 where
-  pub frames : List Frame
+  pub frames : List OpenContainer
   pub takes : TakesValue frames
   pub depth : length frames ≡ n
   pub text : frames_text frames ≡ m
 
-record KeyFrames (n : ℕ) (ps : Pairs) (m : List ℕ) : Type 0 where
-  pub frames : List Frame
+record KeyFrames (n : ℕ) (ps : TreePairs) (m : List ℕ) : Type 0 where
+  pub frames : List OpenContainer
   pub takes : IfAny frames (TakesValue frames)
   pub pairs : ArePairs ps
   pub depth : suc (length frames) ≡ n
   pub text : frames_text frames ++ (100 ∷ pairs_text ps) ≡ m
 
-if_any : (fs : List Frame) → TakesValue fs → IfAny fs (TakesValue fs)
+if_any : (fs : List OpenContainer) → TakesValue fs → IfAny fs (TakesValue fs)
 if_any [] h = absurd h
 if_any (f ∷ fs) h = h
 
@@ -53,7 +53,7 @@ mutual
         text = sym (append_assoc (frames_text r.frames) (100 ∷ pairs_text ps) (string_text key)) ∙ ap (λ x. x ++ string_text key) r.text;
       }
 
-  frames_of_key : (n : ℕ) (ps : Pairs) (m : List ℕ) → AwaitsKey n ps m → KeyFrames n ps m
+  frames_of_key : (n : ℕ) (ps : TreePairs) (m : List ℕ) → AwaitsKey n ps m → KeyFrames n ps m
   frames_of_key n ps m (of_message qs g) = record { frames = []; takes = tt; pairs = g; depth = refl; text = refl }
   frames_of_key n ps m (of_value k front qs a g) =
       let r = frames_of_value k front a in
@@ -62,9 +62,9 @@ mutual
 -- A key that is repeated
 
 pub record RepeatsAt (m : List ℕ) : Type 0 where
-  pub pairs : Pairs
+  pub pairs : TreePairs
   pub key : List ℕ
-  pub frames : List Frame
+  pub frames : List OpenContainer
   pub is : IsCut (cut (at_value pairs key ∷ frames) between)
   pub text : cut_text (cut (at_value pairs key ∷ frames) between) ≡ m
   pub has : HasKey key pairs
@@ -83,7 +83,7 @@ repeats_at m h =
       has = h.6;
     }
 
-pub repeats_key : (m : List ℕ) (ps : Pairs) (key : List ℕ) (fs : List Frame) → IsCut (cut (at_value ps key ∷ fs) between)
+pub repeats_key : (m : List ℕ) (ps : TreePairs) (key : List ℕ) (fs : List OpenContainer) → IsCut (cut (at_value ps key ∷ fs) between)
     → cut_text (cut (at_value ps key ∷ fs) between) ≡ m → HasKey key ps → RepeatsKey m
 repeats_key m ps key fs (inl h) e has = (
   suc (length fs),
@@ -100,7 +100,7 @@ repeats_key m ps key fs (inr h) e has = absurd h
 -- A length above the limit
 
 pub record LargeAt (limit : ℕ) (m : List ℕ) : Type 0 where
-  pub frames : List Frame
+  pub frames : List OpenContainer
   pub len : ℕ
   pub is : IsCut (cut frames (count len))
   pub text : cut_text (cut frames (count len)) ≡ m
@@ -117,24 +117,24 @@ string_at limit m front len (inr a) fits large e =
 pub large_at : (limit : ℕ) (m : List ℕ) → IsLarge limit m → LargeAt limit m
 large_at limit m h = string_at limit m h.0 h.1 h.2 h.3 h.4 h.5
 
-string_awaited : (fs : List Frame) → TakesValue fs ⊎ TakesKey fs → AwaitsString (frames_text fs)
+string_awaited : (fs : List OpenContainer) → TakesValue fs ⊎ TakesKey fs → AwaitsString (frames_text fs)
 string_awaited fs (inl h) = inl (length fs, value_awaited fs h)
 string_awaited [] (inr h) = absurd h
 string_awaited (in_list ts ∷ fs) (inr h) = absurd h
 string_awaited (at_key ps ∷ fs) (inr h) = inr (suc (length fs), ps, key_awaited ps fs h.0 h.1)
 string_awaited (at_value ps key ∷ fs) (inr h) = absurd h
 
-pub is_large : (limit : ℕ) (m : List ℕ) (fs : List Frame) (len : ℕ) → IsCut (cut fs (count len)) → cut_text (cut fs (count len)) ≡ m → limit < len → IsLarge limit m
+pub is_large : (limit : ℕ) (m : List ℕ) (fs : List OpenContainer) (len : ℕ) → IsCut (cut fs (count len)) → cut_text (cut fs (count len)) ≡ m → limit < len → IsLarge limit m
 is_large limit m fs len h e large = (frames_text fs, len, string_awaited fs h.0, h.1, large, sym e)
 
 -- A nesting that is too deep
 
-abbrev pub IsEmpty : Frame → Type 0
+abbrev pub IsEmpty : OpenContainer → Type 0
 IsEmpty f = (f ≡ in_list no_trees) ⊎ (f ≡ at_key no_pairs)
 
 pub record DeepAt (m : List ℕ) : Type 0 where
-  pub frame : Frame
-  pub frames : List Frame
+  pub frame : OpenContainer
+  pub frames : List OpenContainer
   pub is : IsCut (cut (frame ∷ frames) between)
   pub text : cut_text (cut (frame ∷ frames) between) ≡ m
   pub empty : IsEmpty frame
@@ -165,21 +165,21 @@ opened_at m front n a deep (inr e) =
 pub deep_at : (m : List ℕ) → IsDeep m → DeepAt m
 deep_at m h = opened_at m h.0 h.1 h.2 h.3 h.4
 
-deep_list : (m : List ℕ) (ts : Trees) (fs : List Frame) → ts ≡ no_trees → IsCut (cut (in_list ts ∷ fs) between) → cut_text (cut (in_list ts ∷ fs) between) ≡ m → 64 ≤ length fs → IsDeep m
+deep_list : (m : List ℕ) (ts : Trees) (fs : List OpenContainer) → ts ≡ no_trees → IsCut (cut (in_list ts ∷ fs) between) → cut_text (cut (in_list ts ∷ fs) between) ≡ m → 64 ≤ length fs → IsDeep m
 deep_list m ts fs none (inl h) e deep =
     (frames_text fs, length fs, value_awaited fs h.1, deep, inl (sym e ∙ append-nil (frames_text (in_list ts ∷ fs)) ∙ ap (λ x. frames_text fs ++ (108 ∷ trees_text x)) none))
 deep_list m ts fs none (inr h) e deep = absurd h
 
-inside : (fs : List Frame) → 64 ≤ length fs → IfAny fs (TakesValue fs) → TakesValue fs
+inside : (fs : List OpenContainer) → 64 ≤ length fs → IfAny fs (TakesValue fs) → TakesValue fs
 inside [] deep h = absurd (omega arith)
 inside (f ∷ fs) deep h = h
 
-deep_dictionary : (m : List ℕ) (ps : Pairs) (fs : List Frame) → ps ≡ no_pairs → IsCut (cut (at_key ps ∷ fs) between) → cut_text (cut (at_key ps ∷ fs) between) ≡ m → 64 ≤ length fs → IsDeep m
+deep_dictionary : (m : List ℕ) (ps : TreePairs) (fs : List OpenContainer) → ps ≡ no_pairs → IsCut (cut (at_key ps ∷ fs) between) → cut_text (cut (at_key ps ∷ fs) between) ≡ m → 64 ≤ length fs → IsDeep m
 deep_dictionary m ps fs none (inl h) e deep = absurd h
 deep_dictionary m ps fs none (inr h) e deep =
     (frames_text fs, length fs, value_awaited fs (inside fs deep h.1), deep, inr (sym e ∙ append-nil (frames_text (at_key ps ∷ fs)) ∙ ap (λ x. frames_text fs ++ (100 ∷ pairs_text x)) none))
 
-pub is_deep : (m : List ℕ) (f : Frame) (fs : List Frame) → IsCut (cut (f ∷ fs) between) → cut_text (cut (f ∷ fs) between) ≡ m → IsEmpty f → 64 ≤ length fs → IsDeep m
+pub is_deep : (m : List ℕ) (f : OpenContainer) (fs : List OpenContainer) → IsCut (cut (f ∷ fs) between) → cut_text (cut (f ∷ fs) between) ≡ m → IsEmpty f → 64 ≤ length fs → IsDeep m
 is_deep m f fs is e (inl empty) deep =
     deep_list m no_trees fs refl (subst (λ g. IsCut (cut (g ∷ fs) between)) empty is) (ap (λ g. cut_text (cut (g ∷ fs) between)) (sym empty) ∙ e) deep
 is_deep m f fs is e (inr empty) deep =

@@ -3,18 +3,18 @@ use Rattle.std.proofs.Common.{◌≡◌, ℕ, suc, ◌+◌, ◌-◌, ◌<◌, �
 use Rattle.std.proofs.lemmas.List.{length-replicate}
 use Rattle.std.proofs.lemmas.Fmt.{decimal_digit}
 use Rattle.std.proofs.Math.ListN.{replicate}
-use Rattle.bencode_wire.specs.Tree.{Tree, integer, string, list, dictionary, no_trees, Pairs, no_pairs, add_tree, add_pair}
+use Rattle.bencode_wire.specs.Tree.{Tree, integer, string, list, dictionary, no_trees, TreePairs, no_pairs, add_tree, add_pair}
 use Rattle.bencode_wire.specs.Spelling.{text, trees_text, pairs_text, string_text, integer_text, IsInteger, IsString, IsSpellable, ArePairs}
-use Rattle.bencode_wire.specs.Inside.Cut.{Frame, in_list, at_key, at_value, between, after_i, after_minus, digits, count, part, Cut, cut, frames_text, cut_text, IfAny, TakesValue, TakesKey, IsCut}
+use Rattle.bencode_wire.specs.Inside.Cut.{OpenContainer, in_list, at_key, at_value, between, after_i, after_minus, digits, count, part, Cut, cut, frames_text, cut_text, IfAny, TakesValue, TakesKey, IsCut}
 use Rattle.bencode_wire.proofs.Sound.{pairs_text-add_pair, trees_text-add_tree, ArePairs-add_pair, AreSpellable-add_tree}
 
 -- bytes that are less than a message
 abbrev pub IsFront : List ℕ → Type 0
-IsFront m = (ps : Pairs) × (b : ℕ) × (more : List ℕ) × ArePairs ps × (text (dictionary ps) ≡ m ++ b ∷ more)
+IsFront m = (ps : TreePairs) × (b : ℕ) × (more : List ℕ) × ArePairs ps × (text (dictionary ps) ≡ m ++ b ∷ more)
 
 -- bytes with which a message ends
 abbrev Ends : List ℕ → Type 0
-Ends m = (ps : Pairs) × (more : List ℕ) × ArePairs ps × (text (dictionary ps) ≡ m ++ more)
+Ends m = (ps : TreePairs) × (more : List ℕ) × ArePairs ps × (text (dictionary ps) ≡ m ++ more)
 
 ends_at : (m n x : List ℕ) → m ≡ n ++ x → Ends m → Ends n
 ends_at m n x e h = (h.0, x ++ h.1, h.2, h.3 ∙ ap (λ y. y ++ h.1) e ∙ append_assoc n x h.1)
@@ -29,7 +29,7 @@ inner_dictionary : (xs ps : List ℕ) → xs ++ (100 ∷ (ps ++ 101 ∷ [])) ≡
 inner_dictionary xs ps = simp append_assoc
 
 -- a value that is whole in its frames
-close_value : (fs : List Frame) (t : Tree) → TakesValue fs → IsSpellable t → Ends (frames_text fs ++ text t)
+close_value : (fs : List OpenContainer) (t : Tree) → TakesValue fs → IsSpellable t → Ends (frames_text fs ++ text t)
 close_value [] t h g = absurd h
 close_value (in_list ts ∷ fs) t h g =
     ends_at (frames_text fs ++ text (list (add_tree ts t))) (frames_text (in_list ts ∷ fs) ++ text t) (101 ∷ [])
@@ -45,7 +45,7 @@ close_value (at_value ps key ∷ f ∷ fs) t h g =
     (ap (λ x. frames_text (f ∷ fs) ++ (100 ∷ (x ++ 101 ∷ []))) (pairs_text-add_pair ps key t) ∙ inner_pair (frames_text (f ∷ fs)) (pairs_text ps) (string_text key) (text t))
     (close_value (f ∷ fs) (dictionary (add_pair ps key t)) h.2 (ArePairs-add_pair ps key t h.0 h.1 g))
 
-close_dictionary : (fs : List Frame) (ps : Pairs) → IfAny fs (TakesValue fs) → ArePairs ps → Ends (frames_text fs ++ text (dictionary ps))
+close_dictionary : (fs : List OpenContainer) (ps : TreePairs) → IfAny fs (TakesValue fs) → ArePairs ps → Ends (frames_text fs ++ text (dictionary ps))
 close_dictionary [] ps h g = (ps, [], g, sym (append-nil (text (dictionary ps))))
 close_dictionary (f ∷ fs) ps h g = close_value (f ∷ fs) (dictionary ps) h g
 
@@ -60,7 +60,7 @@ abbrev zeros : ℕ → List ℕ
 zeros n = replicate n 0
 
 -- a string that is whole in its frames, be it a key
-close_string : (fs : List Frame) (bytes : List ℕ) → TakesValue fs ⊎ TakesKey fs → IsString bytes → Ends (frames_text fs ++ string_text bytes)
+close_string : (fs : List OpenContainer) (bytes : List ℕ) → TakesValue fs ⊎ TakesKey fs → IsString bytes → Ends (frames_text fs ++ string_text bytes)
 close_string fs bytes (inl h) g = close_value fs (string bytes) h g
 close_string [] bytes (inr h) g = absurd h
 close_string (in_list ts ∷ fs) bytes (inr h) g = absurd h
@@ -70,14 +70,14 @@ close_string (at_key ps ∷ fs) bytes (inr h) g =
     (ap (λ x. x ++ string_text []) (sym (append_assoc (frames_text fs) (100 ∷ pairs_text ps) (string_text bytes)))) value
 close_string (at_value ps key ∷ fs) bytes (inr h) g = absurd h
 
-close_integer : (fs : List Frame) (n : ℤ) (m x : List ℕ) (b : ℕ) → TakesValue fs → IsInteger n → frames_text fs ++ integer_text n ≡ m ++ b ∷ x → IsFront m
+close_integer : (fs : List OpenContainer) (n : ℤ) (m x : List ℕ) (b : ℕ) → TakesValue fs → IsInteger n → frames_text fs ++ integer_text n ≡ m ++ b ∷ x → IsFront m
 close_integer fs n m x b h g e = front_by (frames_text fs ++ integer_text n) m x b e (close_value fs (integer n) h g)
 
 in_part : (xs ds bytes more : List ℕ) → xs ++ (ds ++ (bytes ++ more)) ≡ (xs ++ (ds ++ bytes)) ++ more
 in_part xs ds bytes more = simp append_assoc
 
 -- part of a string
-close_part : (fs : List Frame) (bytes : List ℕ) (left : ℕ) → TakesValue fs ⊎ TakesKey fs → 0 < left → length bytes + left < 10 ^ 64 → IsFront (cut_text (cut fs (part bytes left)))
+close_part : (fs : List OpenContainer) (bytes : List ℕ) (left : ℕ) → TakesValue fs ⊎ TakesKey fs → 0 < left → length bytes + left < 10 ^ 64 → IsFront (cut_text (cut fs (part bytes left)))
 close_part fs bytes left h some fits =
     let all = bytes ++ 0 ∷ zeros (left - 1) in
     let zs : length (zeros (left - 1)) ≡ left - 1 = length-replicate (left - 1) 0 in
@@ -89,7 +89,7 @@ close_part fs bytes left h some fits =
 in_count : (xs ds more : List ℕ) → xs ++ ((ds ++ 58 ∷ []) ++ more) ≡ (xs ++ ds) ++ 58 ∷ more
 in_count xs ds more = simp append_assoc
 
-close_count : (fs : List Frame) (n : ℕ) → TakesValue fs ⊎ TakesKey fs → n < 10 ^ 64 → IsFront (cut_text (cut fs (count n)))
+close_count : (fs : List OpenContainer) (n : ℕ) → TakesValue fs ⊎ TakesKey fs → n < 10 ^ 64 → IsFront (cut_text (cut fs (count n)))
 close_count fs n h fits =
     let long : length (zeros n) ≡ n = length-replicate n 0 in
     front_by (frames_text fs ++ string_text (zeros n)) (frames_text fs ++ decimal n) (zeros n) 58
@@ -99,7 +99,7 @@ close_count fs n h fits =
 integer_at : (xs ds : List ℕ) → xs ++ (ds ++ 101 ∷ []) ≡ (xs ++ ds) ++ 101 ∷ []
 integer_at xs ds = simp append_assoc
 
-close_between : (fs : List Frame) → IfAny fs (TakesValue fs ⊎ TakesKey fs) → IsFront (frames_text fs)
+close_between : (fs : List OpenContainer) → IfAny fs (TakesValue fs ⊎ TakesKey fs) → IsFront (frames_text fs)
 close_between [] h = (no_pairs, 100, 101 ∷ [], tt, refl)
 close_between (in_list ts ∷ fs) (inl h) =
     front_by (frames_text fs ++ text (list ts)) (frames_text (in_list ts ∷ fs)) [] 101 (simp append_assoc) (close_value fs (list ts) h.1 h.0)

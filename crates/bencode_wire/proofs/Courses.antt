@@ -7,7 +7,7 @@ use Rattle.bencode_wire.specs.Spelling.{put_sorted}
 use Rattle.std.specs.List.{slice_index_or}
 use Rattle.std.proofs.lemmas.Bool.Decides.{nat_tests}
 use Rattle.bencode_wire.specs.Tree.{string}
-use Rattle.bencode_wire.specs.Inside.Cut.{Frame, in_list, at_key, at_value, Token, between, count, part, Cut, cut}
+use Rattle.bencode_wire.specs.Inside.Cut.{OpenContainer, in_list, at_key, at_value, Token, between, count, part, Cut, cut}
 use Rattle.bencode_wire.specs.Inside.Sign.{sign_of}
 use Rattle.bencode_wire.specs.Inside.Beginnings.{begin, put, goes}
 use Rattle.bencode_wire.specs.Inside.ByteEffects.{length_digits, text_bytes}
@@ -26,14 +26,14 @@ use Rattle.bencode_wire.specs.Inside.Reader.{token_view, cut_view, come_of}
 use Rattle.bencode_wire.specs.declared.cut.Reader.{Reader}
 use Rattle.bencode_wire.specs.declared.cut.Course.{Course}
 use Rattle.bencode_wire.specs.declared.cut.Token as code
-use Rattle.bencode_wire.specs.declared.fault.Refusal.{Refusal}
-use Rattle.bencode_wire.specs.declared.fault.Refusal.TheVariants as refusals
+use Rattle.bencode_wire.specs.declared.fault.WireFaultKind.{WireFaultKind}
+use Rattle.bencode_wire.specs.declared.fault.WireFaultKind.TheVariants as refusals
 use Rattle.bencode_wire.specs.declared.fault.WireFault.{WireFault}
 use Rattle.bencode_wire.proofs.Tokens.{first}
 use Rattle.bencode_wire.proofs.Runs.{stream_reading-slice, stream_reading-over}
 
 -- a run in the middle of bytes, as the code cuts it out
-pub record Runs (limit begin : ℕ) (fs : List Frame) (token : Token) (at n : ℕ) (bytes : List ℕ) : Type 0 where
+pub record Runs (limit begin : ℕ) (fs : List OpenContainer) (token : Token) (at n : ℕ) (bytes : List ℕ) : Type 0 where
   pub begun : begin ≤ at
   pub some : 0 < n
   pub within : at + n ≤ length bytes
@@ -41,10 +41,10 @@ pub record Runs (limit begin : ℕ) (fs : List Frame) (token : Token) (at n : �
   pub room : at - begin + n ≤ limit
 
 -- what the run comes to
-abbrev pub outcome : ℕ → List Frame → Token → ℕ → ℕ → List ℕ → Judged
+abbrev pub outcome : ℕ → List OpenContainer → Token → ℕ → ℕ → List ℕ → Judged
 outcome limit fs token at n bytes = within_limit limit (judged (step_run put_sorted fs token (take (at + n - at) (drop at bytes))))
 
-run_onward : (limit begin : ℕ) (fs : List Frame) (token : Token) (at n : ℕ) (bytes : List ℕ) (j : Judged)
+run_onward : (limit begin : ℕ) (fs : List OpenContainer) (token : Token) (at n : ℕ) (bytes : List ℕ) (j : Judged)
     → Runs limit begin fs token at n bytes → outcome limit fs token at n bytes ≡ j
     → stream_reading limit put_sorted (at - begin) (cut fs token) at (drop at bytes)
     ≡ onward j (at + n - 1) (λ c. stream_reading limit put_sorted (at - begin + n) c (at + n) (drop (at + n) bytes)) (stream_reading limit put_sorted 0 start (at + n) (drop (at + n) bytes))
@@ -59,7 +59,7 @@ same_reading : (now next : StreamReading) (old : List Ben) → now ≡ next → 
 same_reading now next old e = record { messages = ap (λ r. ready_view old ++ r.messages) (sym e); end = ap (λ r. r.end) (sym e) }
 
 -- the message goes on
-pub advances_in : (limit begin : ℕ) (fs : List Frame) (token : Token) (at n : ℕ) (bytes : List ℕ) (c : Cut) (old : List Ben)
+pub advances_in : (limit begin : ℕ) (fs : List OpenContainer) (token : Token) (at n : ℕ) (bytes : List ℕ) (c : Cut) (old : List Ben)
     → Runs limit begin fs token at n bytes → outcome limit fs token at n bytes ≡ reads c
     → Advances (stream_reading limit put_sorted (at - begin) (cut fs token) at (drop at bytes)) (stream_reading limit put_sorted (at + n - begin) c (at + n) (drop (at + n) bytes)) old old
 advances_in limit begin fs token at n bytes c old h e =
@@ -67,7 +67,7 @@ advances_in limit begin fs token at n bytes c old h e =
     same_reading _ _ old (run_onward limit begin fs token at n bytes (reads c) h e ∙ ap (λ k. stream_reading limit put_sorted k c (at + n) (drop (at + n) bytes)) before)
 
 -- a message is whole
-pub advances_past : (limit begin : ℕ) (fs : List Frame) (token : Token) (at n : ℕ) (bytes : List ℕ) (c : Cut) (message : Ben) (old new : List Ben)
+pub advances_past : (limit begin : ℕ) (fs : List OpenContainer) (token : Token) (at n : ℕ) (bytes : List ℕ) (c : Cut) (message : Ben) (old new : List Ben)
     → Runs limit begin fs token at n bytes → outcome limit fs token at n bytes ≡ whole (tree_view message) → c ≡ start → new ≡ old ++ message ∷ []
     → Advances (stream_reading limit put_sorted (at - begin) (cut fs token) at (drop at bytes)) (stream_reading limit put_sorted (at + n - (at + n)) c (at + n) (drop (at + n) bytes)) old new
 advances_past limit begin fs token at n bytes c message old new h e fresh pushed =
@@ -111,7 +111,7 @@ checked_twice limit (reads c) = cond_twice (is_large limit c) c limit refl
 checked_twice limit (whole t) = refl
 checked_twice limit (refuses rule) = refl
 
-pub faults_in : (limit place : ℕ) (course : Course) (fs : List Frame) (token : Token) (n : ℕ) (bytes : List ℕ) (old : List Ben) (refusal : Refusal) (q : ℕ) (fault : WireFault)
+pub faults_in : (limit place : ℕ) (course : Course) (fs : List OpenContainer) (token : Token) (n : ℕ) (bytes : List ℕ) (old : List Ben) (refusal : WireFaultKind) (q : ℕ) (fault : WireFault)
     → limit < 2 ^ 64 → ahead limit bytes course ≡ stream_reading limit put_sorted (course.at - course.begin) (cut fs token) course.at (drop course.at bytes)
     → Runs limit course.begin fs token course.at n bytes → Refuses (outcome limit fs token course.at n bytes) refusal
     → q ≡ counted_place (place + (course.at + n - 1)) → fault ≡ refusal_at refusal q
@@ -146,7 +146,7 @@ stepped begin at n bytes begun within =
           ∙ ap (take (at + n - at)) (drop-drop (at - begin) begin bytes ∙ ap (λ k. drop k bytes) (sym total)),
     )
 
-pub outcome_of : (limit : ℕ) (fs : List Frame) (token : code.Token) (begin at n : ℕ) (bytes : List ℕ) → begin ≤ at → at + n ≤ length bytes
+pub outcome_of : (limit : ℕ) (fs : List OpenContainer) (token : code.Token) (begin at n : ℕ) (bytes : List ℕ) → begin ≤ at → at + n ≤ length bytes
     → outcome limit fs (token_view (drop begin (take at bytes)) token) at n bytes
     ≡ within_limit limit (judged (step_run put_sorted fs
     (token_view (take (length (take (at + n - begin) (drop begin bytes)) - n) (take (at + n - begin) (drop begin bytes))) token)
@@ -171,7 +171,7 @@ pub step_some : (j : Judged) (read : List ℕ) (r : Reader) (o : Option Ben) (v 
     → (j ≡ whole (tree_view v)) × ((next : List ℕ) → cut_view next r ≡ start) × (come_of r.token ≡ 0)
 step_some j read r o v e s = subst (λ o. Steps j read r (Ok o)) e s
 
-begin_digit : (f : Frame) (fs : List Frame) (d : ℕ) → begin put_sorted (f ∷ fs) (Sign.Digit d) ≡ goes (f ∷ fs) (count d)
+begin_digit : (f : OpenContainer) (fs : List OpenContainer) (d : ℕ) → begin put_sorted (f ∷ fs) (Sign.Digit d) ≡ goes (f ∷ fs) (count d)
 begin_digit (in_list ts) fs d = refl
 begin_digit (at_key ps) fs d = refl
 begin_digit (at_value ps key) fs d = refl
@@ -182,12 +182,12 @@ one_byte bytes at h =
     let one : at + 1 - at ≡ 1 = omega arith in
     ap (λ n. take n (drop at bytes)) one ∙ ap (take 1) f.1
 
-part_step : (fs : List Frame) (d : ℕ) (run : List ℕ) → 0 < length run → step_run put_sorted fs (part [] d) run ≡ text_bytes put_sorted fs [] d run
+part_step : (fs : List OpenContainer) (d : ℕ) (run : List ℕ) → 0 < length run → step_run put_sorted fs (part [] d) run ≡ text_bytes put_sorted fs [] d run
 part_step fs d [] some = absurd (omega arith)
 part_step fs d (b ∷ run) some = refl
 
 -- a short string is read as its bytes
-pub short_onward : (limit begin at d : ℕ) (f : Frame) (fs : List Frame) (bytes : List ℕ) → begin ≤ at → 0 < d → at + 2 + d ≤ length bytes → at - begin + 2 + d ≤ limit
+pub short_onward : (limit begin at d : ℕ) (f : OpenContainer) (fs : List OpenContainer) (bytes : List ℕ) → begin ≤ at → 0 < d → at + 2 + d ≤ length bytes → at - begin + 2 + d ≤ limit
     → sign_of (slice_index_or bytes at 0) ≡ Sign.Digit d → slice_index_or bytes (at + 1) 0 ≡ 58
     → stream_reading limit put_sorted (at - begin) (cut (f ∷ fs) between) at (drop at bytes)
     ≡ onward (within_limit limit (judged (put put_sorted (f ∷ fs) (string (take (at + 2 + d - (at + 2)) (drop (at + 2) bytes))))))
@@ -228,18 +228,18 @@ short_onward limit begin_at at d f fs bytes begun some within room digit colon =
     ∙ ap (λ k. onward (within_limit limit (judged (put put_sorted (f ∷ fs) (string run)))) (at + 2 + d - 1)
     (λ c. stream_reading limit put_sorted k c (at + 2 + d) (drop (at + 2 + d) bytes)) (stream_reading limit put_sorted 0 start (at + 2 + d) (drop (at + 2 + d) bytes))) three
 
-some_frames : (fs : List Frame) → 0 < length fs → (f : Frame) × (outer : List Frame) × (fs ≡ f ∷ outer)
+some_frames : (fs : List OpenContainer) → 0 < length fs → (f : OpenContainer) × (outer : List OpenContainer) × (fs ≡ f ∷ outer)
 some_frames [] h = absurd (omega arith)
 some_frames (f ∷ fs) h = (f, fs, refl)
 
-abbrev pub ReadsShort : ℕ → ℕ → List Frame → Token → ℕ → ℕ → List ℕ → Type 0
+abbrev pub ReadsShort : ℕ → ℕ → List OpenContainer → Token → ℕ → ℕ → List ℕ → Type 0
 ReadsShort limit begin_at fs token at d bytes =
     stream_reading limit put_sorted (at - begin_at) (cut fs token) at (drop at bytes)
     ≡ onward (within_limit limit (judged (put put_sorted fs (string (take (at + 2 + d - (at + 2)) (drop (at + 2) bytes))))))
     (at + 2 + d - 1) (λ c. stream_reading limit put_sorted (at + 2 + d - begin_at) c (at + 2 + d) (drop (at + 2 + d) bytes))
     (stream_reading limit put_sorted 0 start (at + 2 + d) (drop (at + 2 + d) bytes))
 
-pub reads_short : (limit begin at d : ℕ) (fs : List Frame) (token : Token) (bytes : List ℕ) → token ≡ between → 0 < length fs → begin ≤ at → 0 < d → at + 2 + d ≤ length bytes → at - begin + 2 + d ≤ limit
+pub reads_short : (limit begin at d : ℕ) (fs : List OpenContainer) (token : Token) (bytes : List ℕ) → token ≡ between → 0 < length fs → begin ≤ at → 0 < d → at + 2 + d ≤ length bytes → at - begin + 2 + d ≤ limit
     → sign_of (slice_index_or bytes at 0) ≡ Sign.Digit d → slice_index_or bytes (at + 1) 0 ≡ 58
     → ReadsShort limit begin fs token at d bytes
 reads_short limit begin_at at d fs token bytes is inside begun some within room digit colon =
@@ -248,14 +248,14 @@ reads_short limit begin_at at d fs token bytes is inside begun some within room 
     (subst (λ fs. ReadsShort limit begin_at fs between at d bytes) (sym s.2) (short_onward limit begin_at at d s.0 s.1 bytes begun some within room digit colon))
 
 -- a short string is read
-pub short_in : (limit begin at d : ℕ) (fs : List Frame) (token : Token) (bytes : List ℕ) (c : Cut) (old : List Ben) → ReadsShort limit begin fs token at d bytes
+pub short_in : (limit begin at d : ℕ) (fs : List OpenContainer) (token : Token) (bytes : List ℕ) (c : Cut) (old : List Ben) → ReadsShort limit begin fs token at d bytes
     → within_limit limit (judged (put put_sorted fs (string (take (at + 2 + d - (at + 2)) (drop (at + 2) bytes))))) ≡ reads c
     → Advances (stream_reading limit put_sorted (at - begin) (cut fs token) at (drop at bytes)) (stream_reading limit put_sorted (at + 2 + d - begin) c (at + 2 + d) (drop (at + 2 + d) bytes)) old old
 short_in limit begin_at at d fs token bytes c old is e =
     same_reading _ _ old (is ∙ ap (λ j. onward j (at + 2 + d - 1) (λ c. stream_reading limit put_sorted (at + 2 + d - begin_at) c (at + 2 + d) (drop (at + 2 + d) bytes)) (stream_reading limit put_sorted 0 start (at + 2 + d) (drop (at + 2 + d) bytes))) e)
 
 -- a short string meets a rule
-pub faults_short : (limit place : ℕ) (course : Course) (old : List Ben) (bytes : List ℕ) (j : Judged) (same : Cut → StreamReading) (fresh : StreamReading) (refusal : Refusal) (k q : ℕ) (fault : WireFault)
+pub faults_short : (limit place : ℕ) (course : Course) (old : List Ben) (bytes : List ℕ) (j : Judged) (same : Cut → StreamReading) (fresh : StreamReading) (refusal : WireFaultKind) (k q : ℕ) (fault : WireFault)
     → limit < 2 ^ 64 → ahead limit bytes course ≡ onward (within_limit limit j) k same fresh → Refuses j refusal → q ≡ counted_place (place + k) → fault ≡ refusal_at refusal q
     → Stops limit place bytes course old old fault
 faults_short limit place course old bytes j same fresh refusals.NoMemory k q fault small is g at e = subst (λ f. Stops limit place bytes course old old f) (sym e) tt

@@ -4,31 +4,31 @@ use Rattle.std.specs.List.{slice_set, slice_index_or}
 use Rattle.std.proofs.lemmas.List.{map-append, reverse-append, length-reverse, length-map}
 use Rattle.bencode_wire.specs.Inside.Cut as cuts
 use Rattle.bencode_wire.specs.Inside.Reader.{frame_view, frames_view}
-use Rattle.bencode_wire.specs.declared.cut.Frame.{Frame}
+use Rattle.bencode_wire.specs.declared.cut.OpenContainer.{OpenContainer}
 
-split : (f : Frame) (fs : List Frame) → (front : List Frame) × (last : Frame) × (f ∷ fs ≡ front ++ last ∷ [])
+split : (f : OpenContainer) (fs : List OpenContainer) → (front : List OpenContainer) × (last : OpenContainer) × (f ∷ fs ≡ front ++ last ∷ [])
 split f [] = ([], f, refl)
 split f (g ∷ fs) = let s = split g fs in (f ∷ s.0, s.1, ap (λ xs. f ∷ xs) s.2)
 
-split_any : (fs : List Frame) → 0 < length fs → (front : List Frame) × (last : Frame) × (fs ≡ front ++ last ∷ [])
+split_any : (fs : List OpenContainer) → 0 < length fs → (front : List OpenContainer) × (last : OpenContainer) × (fs ≡ front ++ last ∷ [])
 split_any [] h = absurd (omega arith)
 split_any (f ∷ fs) h = split f fs
 
-set_last : (front : List Frame) (last f : Frame) → slice_set (front ++ last ∷ []) (length front) f ≡ front ++ f ∷ []
+set_last : (front : List OpenContainer) (last f : OpenContainer) → slice_set (front ++ last ∷ []) (length front) f ≡ front ++ f ∷ []
 set_last [] last f = refl
 set_last (g ∷ front) last f = ap (λ xs. g ∷ xs) (set_last front last f)
 
-get_last : (front : List Frame) (last f : Frame) → slice_index_or (front ++ last ∷ []) (length front) f ≡ last
+get_last : (front : List OpenContainer) (last f : OpenContainer) → slice_index_or (front ++ last ∷ []) (length front) f ≡ last
 get_last [] last f = refl
 get_last (g ∷ front) last f = get_last front last f
 
-view_last : (front : List Frame) (last : Frame) → frames_view (front ++ last ∷ []) ≡ frame_view last ∷ frames_view front
+view_last : (front : List OpenContainer) (last : OpenContainer) → frames_view (front ++ last ∷ []) ≡ frame_view last ∷ frames_view front
 view_last front last = ap reverse (map-append frame_view front (last ∷ [])) ∙ reverse-append (map frame_view front) (frame_view last ∷ [])
 
 -- the outer frames, and what stands where the innermost is changed
-pub innermost : (fs : List Frame) (n : ℕ) (f : Frame) → n ≡ length fs → 0 < n → f ≡ slice_index_or fs (n - 1) f
-    → (outer : List cuts.Frame) × (frames_view fs ≡ frame_view f ∷ outer)
-    × ((g : Frame) → frames_view (slice_set fs (n - 1) g) ≡ frame_view g ∷ outer)
+pub innermost : (fs : List OpenContainer) (n : ℕ) (f : OpenContainer) → n ≡ length fs → 0 < n → f ≡ slice_index_or fs (n - 1) f
+    → (outer : List cuts.OpenContainer) × (frames_view fs ≡ frame_view f ∷ outer)
+    × ((g : OpenContainer) → frames_view (slice_set fs (n - 1) g) ≡ frame_view g ∷ outer)
 innermost fs n f count some is =
     let s = split_any fs (omega arith) in
     let front = s.0 in
@@ -41,5 +41,5 @@ innermost fs n f count some is =
       λ g. ap frames_view (ap (λ k. slice_set fs k g) at ∙ ap (λ xs. slice_set xs (length front) g) s.2 ∙ set_last front last g) ∙ view_last front g,
     )
 
-pub some_view : (fs : List Frame) → 0 < length fs → 0 < length (frames_view fs)
+pub some_view : (fs : List OpenContainer) → 0 < length fs → 0 < length (frames_view fs)
 some_view fs h = let a = length-reverse (map frame_view fs) in let b = length-map fs frame_view in omega arith

@@ -3,10 +3,10 @@ use Rattle.std.proofs.Common.{◌≡◌, ℕ, ◌+◌, ◌⊎◌, inl, inr, Bool
 use Rattle.std.proofs.Common.{◌∷◌, ◌++◌, length, refl, sym, ap, ◌∙◌, subst, append_assoc}
 use Rattle.std.proofs.Common.{append-nil, length-append, arith}
 use Rattle.std.proofs.lemmas.Bool.Decides.{nat_tests}
-use Rattle.bencode_wire.specs.Tree.{Tree, dictionary, Pairs, no_pairs, pair, no_trees, tree}
+use Rattle.bencode_wire.specs.Tree.{Tree, dictionary, TreePairs, no_pairs, pair, no_trees, tree}
 use Rattle.bencode_wire.specs.Tree.{holds_key}
 use Rattle.bencode_wire.specs.Spelling.{text, pairs_text, sorted, put_sorted}
-use Rattle.bencode_wire.specs.Inside.Cut.{Frame, at_value, between, Cut, cut, cut_text, IsCut, sorted_cut}
+use Rattle.bencode_wire.specs.Inside.Cut.{OpenContainer, at_value, between, Cut, cut, cut_text, IsCut, sorted_cut}
 use Rattle.bencode_wire.specs.Inside.Cut.{in_list, at_key, after_i, after_minus, digits, count, part}
 use Rattle.bencode_wire.specs.Fault.{StreamRule, malformed, too_long, too_deep}
 use Rattle.bencode_wire.specs.Inside.ByteSteps.{Judged, reads, whole, refuses, judged, within_limit}
@@ -116,11 +116,11 @@ whole_never : {A : Type 0} → (t : Bool) (rule : StreamRule) (c : Cut) (u : Tre
 whole_never true rule c u e = absurd (cc)
 whole_never false rule c u e = absurd (cc)
 
-opens_never : {A : Type 0} → (t : Bool) (limit : ℕ) (f : Frame) (fs : List Frame) (u : Tree) → within_limit limit (cond t (reads (cut (f ∷ fs) between)) (refuses too_deep)) ≡ whole u → A
+opens_never : {A : Type 0} → (t : Bool) (limit : ℕ) (f : OpenContainer) (fs : List OpenContainer) (u : Tree) → within_limit limit (cond t (reads (cut (f ∷ fs) between)) (refuses too_deep)) ≡ whole u → A
 opens_never true limit f fs u e = absurd (let g : reads (cut (f ∷ fs) between) ≡ whole u = e in cc)
 opens_never false limit f fs u e = absurd (let g : refuses too_deep ≡ whole u = e in cc)
 
-names_never : {A : Type 0} → (t : Bool) (limit : ℕ) (ps : Pairs) (key : List ℕ) (fs : List Frame) (u : Tree)
+names_never : {A : Type 0} → (t : Bool) (limit : ℕ) (ps : TreePairs) (key : List ℕ) (fs : List OpenContainer) (u : Tree)
     → within_limit limit (cond t (refuses malformed) (reads (cut (at_value ps key ∷ fs) between))) ≡ whole u → A
 names_never true limit ps key fs u e = absurd (let g : refuses malformed ≡ whole u = e in cc)
 names_never false limit ps key fs u e = absurd (let g : reads (cut (at_value ps key ∷ fs) between) ≡ whole u = e in cc)
@@ -267,7 +267,7 @@ cut_at stuck d m h s = absurd h
 pub kept_cut : (limit : ℕ) (m : List ℕ) (c : Cut) → Kept limit m c → (d : Cut) × IsCut d × (cut_text d ≡ m) × (c ≡ sorted_cut d)
 kept_cut limit m c k = let h = cut_at (read m) k.inner m k.at (read-sound m) in (k.inner, h.0, h.1, k.is)
 
-resting_at : (f : Frame) (fs : List Frame) (x : Cut) → At (resting f fs) x → x ≡ cut (f ∷ fs) between
+resting_at : (f : OpenContainer) (fs : List OpenContainer) (x : Cut) → At (resting f fs) x → x ≡ cut (f ∷ fs) between
 resting_at (in_list no_trees) fs x h = h
 resting_at (in_list (tree t ts)) fs x h = h
 resting_at (at_key no_pairs) fs x h = h

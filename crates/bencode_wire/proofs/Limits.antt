@@ -1,11 +1,11 @@
 -- Values within the limits that a decoder sets, and that a short text without deep nesting is of one.
 use Rattle.std.proofs.Common.{ℕ, ◌-◌, ◌<◌, ◌≤◌, List, [], ◌∷◌, length, decimal, codes, ◌++◌, length-append, arith}
-use Rattle.bencode_wire.specs.Tree.{Tree, integer, string, list, dictionary, Trees, no_trees, tree, Pairs, no_pairs, pair, HasKey}
+use Rattle.bencode_wire.specs.Tree.{Tree, integer, string, list, dictionary, Trees, no_trees, tree, TreePairs, no_pairs, pair, HasKey}
 use Rattle.bencode_wire.specs.Spelling.{text, trees_text, pairs_text, string_text, IsDistinct, AreDistinct, PairsDistinct}
-use Rattle.bencode_wire.specs.Inside.Nesting.{nesting, trees_nesting, pairs_nesting}
+use Rattle.bencode_wire.specs.Inside.Nesting.{tree_nesting, trees_nesting, tree_pairs_nesting}
 
 -- no key stands twice among these pairs, whatever their values
-abbrev pub KeysDiffer : Pairs → Type 0
+abbrev pub KeysDiffer : TreePairs → Type 0
 KeysDiffer no_pairs = Unit {0}
 KeysDiffer (pair key t ps) = (HasKey key ps → ⊥) × KeysDiffer ps
 
@@ -21,11 +21,11 @@ abbrev mutual
   AreWithin limit depth no_trees = Unit {0}
   AreWithin limit depth (tree t ts) = IsWithin limit depth t × AreWithin limit depth ts
 
-  pub PairsWithin : ℕ → ℕ → Pairs → Type 0
+  pub PairsWithin : ℕ → ℕ → TreePairs → Type 0
   PairsWithin limit depth no_pairs = Unit {0}
   PairsWithin limit depth (pair key t ps) = (length key ≤ limit) × IsWithin limit depth t × PairsWithin limit depth ps
 
-keys_differ : (ps : Pairs) → PairsDistinct ps → KeysDiffer ps
+keys_differ : (ps : TreePairs) → PairsDistinct ps → KeysDiffer ps
 keys_differ no_pairs h = tt
 keys_differ (pair key t ps) h = (h.0, keys_differ ps h.2)
 
@@ -33,7 +33,7 @@ string_within : (limit : ℕ) (bytes : List ℕ) → length (string_text bytes) 
 string_within limit bytes h = let long = length-append (decimal (length bytes) ++ codes ":") bytes in omega arith
 
 mutual
-  pub within : (limit depth : ℕ) (t : Tree) → IsDistinct t → nesting t ≤ depth → length (text t) ≤ limit → IsWithin limit depth t
+  pub within : (limit depth : ℕ) (t : Tree) → IsDistinct t → tree_nesting t ≤ depth → length (text t) ≤ limit → IsWithin limit depth t
   within limit depth (integer n) d deep long = tt
   within limit depth (string bytes) d deep long = string_within limit bytes long
   within limit depth (list ts) d deep long =
@@ -49,7 +49,7 @@ mutual
       let both = length-append (text t) (trees_text ts) in
       (within limit depth t d.0 (omega arith) (omega arith), trees_within limit depth ts d.1 (omega arith) (omega arith))
 
-  pairs_within : (limit depth : ℕ) (ps : Pairs) → PairsDistinct ps → pairs_nesting ps ≤ depth → length (pairs_text ps) ≤ limit → PairsWithin limit depth ps
+  pairs_within : (limit depth : ℕ) (ps : TreePairs) → PairsDistinct ps → tree_pairs_nesting ps ≤ depth → length (pairs_text ps) ≤ limit → PairsWithin limit depth ps
   pairs_within limit depth no_pairs d deep long = tt
   pairs_within limit depth (pair key t ps) d deep long =
       let all = length-append (string_text key ++ text t) (pairs_text ps) in

@@ -3,7 +3,7 @@ use Rattle.std.proofs.Common.{◌≡◌, ℕ, suc, ◌+◌, ◌%◌, ◌^◌, �
 use Rattle.std.specs.Fmt.{signed_decimal}
 use Rattle.std.proofs.lemmas.Fmt.{decimal_by_steps_wide, decimal_is_IsNumeral_wide}
 use Rattle.std.specs.Str.Parse.{digits_value}
-use Rattle.bencode_wire.specs.Tree.{Tree, integer, string, list, dictionary, Trees, no_trees, tree, Pairs, no_pairs, pair}
+use Rattle.bencode_wire.specs.Tree.{Tree, integer, string, list, dictionary, Trees, no_trees, tree, TreePairs, no_pairs, pair}
 use Rattle.bencode_wire.specs.Spelling.{text, trees_text, pairs_text, string_text, IsInteger, IsString, IsSpellable, AreSpellable, ArePairs}
 
 abbrev AreDigits : List ℕ → Type 0
@@ -104,7 +104,7 @@ begins_otherwise (dictionary ps) r z h e = let first = head_same 100 101 _ z e i
 inner_grouped : (inner x : List ℕ) → (inner ++ 101 ∷ []) ++ x ≡ inner ++ 101 ∷ x
 inner_grouped inner x = append_assoc inner (101 ∷ []) x
 
-pair_grouped : (k : List ℕ) (t : Tree) (ps : Pairs) (x : List ℕ)
+pair_grouped : (k : List ℕ) (t : Tree) (ps : TreePairs) (x : List ℕ)
     → (string_text k ++ text t ++ pairs_text ps) ++ 101 ∷ x ≡ string_text k ++ (text t ++ (pairs_text ps ++ 101 ∷ x))
 pair_grouped k t ps x =
     append_assoc (string_text k ++ text t) (pairs_text ps) (101 ∷ x) ∙ append_assoc (string_text k) (text t) (pairs_text ps ++ 101 ∷ x)
@@ -141,7 +141,7 @@ mutual
       let more = trees_same us ts x y g.1 h.1 first.1 in
       (ap (λ a. tree a us) first.0 ∙ ap (λ b. tree t b) more.0, more.1)
 
-  pairs_same : (qs ps : Pairs) (x y : List ℕ) → ArePairs qs → ArePairs ps → pairs_text qs ++ 101 ∷ x ≡ pairs_text ps ++ 101 ∷ y → (qs ≡ ps) × (x ≡ y)
+  pairs_same : (qs ps : TreePairs) (x y : List ℕ) → ArePairs qs → ArePairs ps → pairs_text qs ++ 101 ∷ x ≡ pairs_text ps ++ 101 ∷ y → (qs ≡ ps) × (x ≡ y)
   pairs_same no_pairs no_pairs x y g h e = (refl, tail_same 101 101 x y e)
   pairs_same no_pairs (pair k t ps) x y g h e =
       let first = string_first k (text t ++ (pairs_text ps ++ 101 ∷ y)) x 101 h.0 (sym (e ∙ pair_grouped k t ps y)) in

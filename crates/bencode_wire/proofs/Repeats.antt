@@ -2,7 +2,7 @@
 use Rattle.std.proofs.Common.{◌≡◌, ℕ, suc, Bool, true, false, ◌||◌, List, [], ◌∷◌, ◌++◌, refl, sym, ap, ◌∙◌, subst, append_assoc, inl, inr, arith}
 use Rattle.std.proofs.lemmas.Slice.Eq.{bytes_eq-Decides}
 use Rattle.std.specs.Str.{bytes_eq}
-use Rattle.bencode_wire.specs.Tree.{Tree, integer, string, list, dictionary, Trees, no_trees, tree, Pairs, no_pairs, pair, add_tree, add_pair, holds_key, HasKey}
+use Rattle.bencode_wire.specs.Tree.{Tree, integer, string, list, dictionary, Trees, no_trees, tree, TreePairs, no_pairs, pair, add_tree, add_pair, holds_key, HasKey}
 use Rattle.bencode_wire.specs.Spelling.{text, trees_text, pairs_text, string_text, IsSpellable, AreSpellable, ArePairs, IsDistinct, AreDistinct, PairsDistinct}
 use Rattle.bencode_wire.specs.Fault.{malformed, too_long}
 use Rattle.bencode_wire.specs.Stream.{AwaitsValue, behind_items, behind_key, AwaitsKey, of_message, of_value, RepeatsKey, IsClean}
@@ -37,15 +37,15 @@ next_pair : (m ps k u us x : List ℕ) → (m ++ (100 ∷ ps)) ++ (((k ++ u) ++ 
 next_pair m ps k u us x = simp append_assoc
 
 -- none of the keys stands among the first pairs, and they are distinct
-record Differ (ps qs : Pairs) : Type 0 where
+record Differ (ps qs : TreePairs) : Type 0 where
   pub distinct : PairsDistinct qs
   pub apart : (k : List ℕ) → HasKey k ps → HasKey k qs → ⊥
 
-one_of : (k l : List ℕ) (b : Bool) (qs : Pairs) → bytes_eq k l ≡ b → b || holds_key k qs ≡ true → (k ≡ l → ⊥) → (HasKey k qs → ⊥) → ⊥
+one_of : (k l : List ℕ) (b : Bool) (qs : TreePairs) → bytes_eq k l ≡ b → b || holds_key k qs ≡ true → (k ≡ l → ⊥) → (HasKey k qs → ⊥) → ⊥
 one_of k l true qs e h here later = here (grind (arith, bytes_eq-Decides))
 one_of k l false qs e h here later = later h
 
-add_one : (ps qs : Pairs) (l : List ℕ) (u : Tree) → (HasKey l ps → ⊥) → IsDistinct u → Differ (add_pair ps l u) qs → Differ ps (pair l u qs)
+add_one : (ps qs : TreePairs) (l : List ℕ) (u : Tree) → (HasKey l ps → ⊥) → IsDistinct u → Differ (add_pair ps l u) qs → Differ ps (pair l u qs)
 add_one ps qs l u new d more = record {
   distinct = (more.apart l (holds_key-added l ps u), d, more.distinct);
   apart = λ k old h. one_of k l (bytes_eq k l) qs refl h (λ e. new (subst (λ x. HasKey x ps) e old)) (more.apart k (holds_key-below k l ps u old));
@@ -53,7 +53,7 @@ add_one ps qs l u new d more = record {
 
 -- a dictionary opens behind these bytes
 abbrev Opens : ℕ → List ℕ → Type 0
-Opens n m = (ps : Pairs) → ArePairs ps → AwaitsKey n ps (m ++ (100 ∷ pairs_text ps))
+Opens n m = (ps : TreePairs) → ArePairs ps → AwaitsKey n ps (m ++ (100 ∷ pairs_text ps))
 
 mutual
   distinct_value : (t : Tree) (n : ℕ) (m x : List ℕ) → AwaitsValue n m → IsSpellable t → NeverRepeats (m ++ (text t ++ x)) → IsDistinct t
@@ -75,7 +75,7 @@ mutual
         (never_at _ _ (next_item m (trees_text ts) (text u) (trees_text us) x ∙ ap (λ y. (m ++ (108 ∷ y)) ++ (trees_text us ++ x)) (sym (trees_text-add_tree ts u))) never),
   )
 
-  distinct_pairs : (qs ps : Pairs) (n : ℕ) (m x : List ℕ) → Opens n m → ArePairs ps → ArePairs qs
+  distinct_pairs : (qs ps : TreePairs) (n : ℕ) (m x : List ℕ) → Opens n m → ArePairs ps → ArePairs qs
       → NeverRepeats ((m ++ (100 ∷ pairs_text ps)) ++ (pairs_text qs ++ x)) → Differ ps qs
   distinct_pairs no_pairs ps n m x o k g never = record { distinct = tt; apart = λ key h f. absurd (cc) }
   distinct_pairs (pair l u qs) ps n m x o k g never =
@@ -90,7 +90,7 @@ mutual
       ∙ ap (λ y. (m ++ (100 ∷ y)) ++ (pairs_text qs ++ x)) (sym (pairs_text-add_pair ps l u))) never))
 
 -- the keys of a clean message are distinct
-pub distinct_in_clean : (limit : ℕ) (ps : Pairs) → ArePairs ps → IsClean limit (text (dictionary ps)) → PairsDistinct ps
+pub distinct_in_clean : (limit : ℕ) (ps : TreePairs) → ArePairs ps → IsClean limit (text (dictionary ps)) → PairsDistinct ps
 distinct_in_clean limit ps g clean =
     let all = distinct_pairs ps no_pairs 1 [] (101 ∷ []) (λ qs h. of_message qs h) tt g (never_in_clean limit (text (dictionary ps)) clean) in
     all.distinct

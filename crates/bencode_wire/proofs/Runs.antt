@@ -3,7 +3,7 @@ use Rattle.std.proofs.Common.{◌≡◌, ℕ, suc, ◌+◌, ◌-◌, ◌<◌, �
 use Rattle.std.proofs.Common.{List, [], ◌∷◌, ◌++◌, length, take, drop, sym, ap, ◌∙◌, append_assoc}
 use Rattle.std.proofs.Common.{take-append-drop, drop-drop, length-take, length-drop, arith}
 use Rattle.std.proofs.lemmas.Bool.Decides.{nat_tests}
-use Rattle.bencode_wire.specs.Inside.Cut.{Frame, Token, between, after_i, after_minus, digits, count, part}
+use Rattle.bencode_wire.specs.Inside.Cut.{OpenContainer, Token, between, after_i, after_minus, digits, count, part}
 use Rattle.bencode_wire.specs.Inside.Cut.{Cut, cut}
 use Rattle.bencode_wire.specs.Fault.{too_long}
 use Rattle.bencode_wire.specs.Tree.{string}
@@ -36,14 +36,14 @@ abbrev pub after_run : ℕ → Adding → ℕ → ℕ → ℕ → List ℕ → B
 after_run limit add before at n more next =
     onward (within_limit limit (judged next)) (at + n - 1) (λ c. stream_reading limit add (before + n) c (at + n) more) (stream_reading limit add 0 start (at + n) more)
 
-one_byte : (limit : ℕ) (add : Adding) (before : ℕ) (fs : List Frame) (token : Token) (at b : ℕ) (more : List ℕ) → before + 1 ≤ limit
+one_byte : (limit : ℕ) (add : Adding) (before : ℕ) (fs : List OpenContainer) (token : Token) (at b : ℕ) (more : List ℕ) → before + 1 ≤ limit
     → stream_reading limit add before (cut fs token) at (b ∷ more) ≡ after_run limit add before at 1 more (step_run add fs token (b ∷ []))
 one_byte limit add before fs token at b more room =
     let within : nat_le limit before ≡ false = le_false limit before (omega arith) in
     let place : at ≡ at + 1 - 1 = omega arith in
     rw within (ap (λ p. onward (within_limit limit (judged (step_run add fs token (b ∷ [])))) p (λ c. stream_reading limit add (before + 1) c (at + 1) more) (stream_reading limit add 0 start (at + 1) more)) place)
 
-text_bytes-cons : (add : Adding) (fs : List Frame) (bytes : List ℕ) (left b : ℕ) (r : List ℕ) → 1 + length r ≤ left
+text_bytes-cons : (add : Adding) (fs : List OpenContainer) (bytes : List ℕ) (left b : ℕ) (r : List ℕ) → 1 + length r ≤ left
     → text_bytes add fs (bytes ++ b ∷ []) (left - 1) r ≡ text_bytes add fs bytes left (b ∷ r)
 text_bytes-cons add fs bytes left b r room =
     let test : nat_lt (length r) (left - 1) ≡ nat_lt (suc (length r)) left = lt_same _ _ _ _ (λ h. omega arith) (λ h. omega arith) in
@@ -62,7 +62,7 @@ after_run-shift limit add before at n more next =
     ∙ ap (λ k. onward (within_limit limit (judged next)) (at + suc n - 1) (λ c. stream_reading limit add k c (at + suc n) more) (stream_reading limit add 0 start (at + suc n) more)) b
 
 -- some of a string's bytes
-string_run : (limit : ℕ) (add : Adding) (before : ℕ) (fs : List Frame) (bytes : List ℕ) (left at : ℕ) (r more : List ℕ)
+string_run : (limit : ℕ) (add : Adding) (before : ℕ) (fs : List OpenContainer) (bytes : List ℕ) (left at : ℕ) (r more : List ℕ)
     → 0 < length r → length r ≤ left → before + length r ≤ limit
     → stream_reading limit add before (cut fs (part bytes left)) at (r ++ more) ≡ after_run limit add before at (length r) more (text_bytes add fs bytes left r)
 string_run limit add before fs bytes left at [] more some within room = absurd (omega arith)
@@ -76,7 +76,7 @@ string_run limit add before fs bytes left at (b ∷ d ∷ r) more some within ro
     ∙ ap (λ next. after_run limit add before at (suc (length (d ∷ r))) more next) (text_bytes-cons add fs bytes left b (d ∷ r) (omega arith)))
 
 -- a run that may come as one
-pub stream_reading-run : (limit : ℕ) (add : Adding) (before : ℕ) (fs : List Frame) (token : Token) (at : ℕ) (r more : List ℕ)
+pub stream_reading-run : (limit : ℕ) (add : Adding) (before : ℕ) (fs : List OpenContainer) (token : Token) (at : ℕ) (r more : List ℕ)
     → 0 < length r → TakesRun token (length r) → before + length r ≤ limit
     → stream_reading limit add before (cut fs token) at (r ++ more) ≡ after_run limit add before at (length r) more (step_run add fs token r)
 stream_reading-run limit add before fs (part bytes left) at [] more some takes room = absurd (omega arith)
@@ -98,7 +98,7 @@ stream_reading-run limit add before fs (count n) at (b ∷ []) more some takes r
 stream_reading-run limit add before fs (count n) at (b ∷ d ∷ r) more some takes room = absurd (omega arith)
 
 -- the same in the middle of bytes
-pub stream_reading-slice : (limit : ℕ) (add : Adding) (before : ℕ) (fs : List Frame) (token : Token) (at n : ℕ) (bytes : List ℕ)
+pub stream_reading-slice : (limit : ℕ) (add : Adding) (before : ℕ) (fs : List OpenContainer) (token : Token) (at n : ℕ) (bytes : List ℕ)
     → 0 < n → at + n ≤ length bytes → TakesRun token n → before + n ≤ limit
     → stream_reading limit add before (cut fs token) at (drop at bytes) ≡ after_run limit add before at n (drop (at + n) bytes) (step_run add fs token (take n (drop at bytes)))
 stream_reading-slice limit add before fs token at n bytes some within takes room =

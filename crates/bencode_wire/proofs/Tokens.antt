@@ -12,9 +12,9 @@ use Rattle.bencode_wire.specs.Inside.Cut as cuts
 use Rattle.bencode_wire.specs.Inside.ByteSteps.{Judged, judged, step_run, reads, refuses, within_limit, is_large_token}
 use Rattle.bencode_wire.specs.Inside.Reader.{token_view, begun_view, come_of, last_bytes}
 use Rattle.bencode_wire.specs.Inside.Gives.{Yields}
-use Rattle.bencode_wire.specs.declared.fault.Refusal.{Refusal}
-use Rattle.bencode_wire.specs.declared.cut.Progress.{Progress}
-use Rattle.bencode_wire.specs.declared.cut.Progress.TheVariants as progress
+use Rattle.bencode_wire.specs.declared.fault.WireFaultKind.{WireFaultKind}
+use Rattle.bencode_wire.specs.declared.cut.TokenProgress.{TokenProgress}
+use Rattle.bencode_wire.specs.declared.cut.TokenProgress.TheVariants as progress
 use Rattle.bencode_wire.specs.declared.cut.Token.{Token}
 use Rattle.bencode_wire.specs.declared.cut.Token.TheVariants as tokens
 use Rattle.bencode_wire.specs.declared.cut.PartOfString.{PartOfString}
@@ -35,7 +35,7 @@ begun read (tokens.Length n) e = refl
 begun read (tokens.String p) e = begun_string read p e
 
 -- a token that is not above the limit
-pub goes_on : (limit : ℕ) (j : Judged) (fs : List cuts.Frame) (t : Token) (read : List ℕ) → j ≡ reads (cuts.cut fs (begun_view t)) → come_of t ≡ 0
+pub goes_on : (limit : ℕ) (j : Judged) (fs : List cuts.OpenContainer) (t : Token) (read : List ℕ) → j ≡ reads (cuts.cut fs (begun_view t)) → come_of t ≡ 0
     → is_large_token limit (begun_view t) ≡ false
     → (within_limit limit j ≡ reads (cuts.cut fs (token_view read t))) × (come_of t ≤ length read)
 goes_on limit j fs t read e none small = (
@@ -44,7 +44,7 @@ goes_on limit j fs t read e none small = (
   omega arith,
 )
 
-pub yielded : (j : Judged) (fs : List cuts.Frame) (p : Result Progress Refusal) (t : Token) → p ≡ Ok (progress.Partial t) → Yields j fs p
+pub yielded : (j : Judged) (fs : List cuts.OpenContainer) (p : Result TokenProgress WireFaultKind) (t : Token) → p ≡ Ok (progress.Partial t) → Yields j fs p
     → (j ≡ reads (cuts.cut fs (begun_view t))) × (come_of t ≡ 0)
 yielded j fs p t e y = subst (λ p. Yields j fs p) e y
 
@@ -64,7 +64,7 @@ last_more k run read h =
     ∙ join (length read - (k + run)) (length read - run) read (omega arith)
 
 -- a run that does not end a string
-pub text_on : (limit : ℕ) (fs : List cuts.Frame) (len left run : ℕ) (read : List ℕ) → 0 < run → run < left → left ≤ len → len - left + run ≤ length read
+pub text_on : (limit : ℕ) (fs : List cuts.OpenContainer) (len left run : ℕ) (read : List ℕ) → 0 < run → run < left → left ≤ len → len - left + run ≤ length read
     → (within_limit limit (judged (text_bytes put_sorted fs (last_bytes (len - left) (take (length read - run) read)) left (drop (length read - run) read)))
     ≡ reads (cuts.cut fs (cuts.part (last_bytes (len - (left - run)) read) (left - run)))) × (len - (left - run) ≤ length read)
 text_on limit fs len left run read some more within come =
@@ -81,7 +81,7 @@ text_on limit fs len left run read some more within come =
     )
 
 -- a run that ends it
-pub text_whole : (fs : List cuts.Frame) (len left run : ℕ) (read : List ℕ) → run ≤ left → left ≤ run → left ≤ len → len - left + run ≤ length read
+pub text_whole : (fs : List cuts.OpenContainer) (len left run : ℕ) (read : List ℕ) → run ≤ left → left ≤ run → left ≤ len → len - left + run ≤ length read
     → text_bytes put_sorted fs (last_bytes (len - left) (take (length read - run) read)) left (drop (length read - run) read)
     ≡ put put_sorted fs (string (drop (length read - len) read))
 text_whole fs len left run read some last within come =
@@ -101,14 +101,14 @@ first [] at h = absurd (omega arith)
 first (b ∷ bs) zero h = (bs, refl)
 first (b ∷ bs) (suc at) h = first bs at (omega arith)
 
-pub step_by : (fs : List cuts.Frame) (read : List ℕ) (token t : Token) (run : List ℕ) (b : ℕ) (more : List ℕ) → token ≡ t → run ≡ b ∷ more
+pub step_by : (fs : List cuts.OpenContainer) (read : List ℕ) (token t : Token) (run : List ℕ) (b : ℕ) (more : List ℕ) → token ≡ t → run ≡ b ∷ more
     → step_run put_sorted fs (token_view read token) run ≡ step_run put_sorted fs (token_view read t) (b ∷ more)
 step_by fs read token t run b more e is = ap (λ x. step_run put_sorted fs (token_view read x) run) e ∙ ap (step_run put_sorted fs (token_view read t)) is
 
-pub yields_by : (a b : ByteEffect) (fs : List cuts.Frame) (p : Result Progress Refusal) → a ≡ b → Yields (judged b) fs p → Yields (judged a) fs p
+pub yields_by : (a b : ByteEffect) (fs : List cuts.OpenContainer) (p : Result TokenProgress WireFaultKind) → a ≡ b → Yields (judged b) fs p → Yields (judged a) fs p
 yields_by a b fs p e y = subst (λ x. Yields (judged x) fs p) (sym e) y
 
-pub string_step : (fs : List cuts.Frame) (read run : List ℕ) (token : Token) (p : PartOfString) (b : ℕ) (more : List ℕ) → token ≡ tokens.String p → run ≡ b ∷ more
+pub string_step : (fs : List cuts.OpenContainer) (read run : List ℕ) (token : Token) (p : PartOfString) (b : ℕ) (more : List ℕ) → token ≡ tokens.String p → run ≡ b ∷ more
     → step_run put_sorted fs (token_view read token) run ≡ text_bytes put_sorted fs (last_bytes (p.length - p.left) read) p.left run
 string_step fs read run token p b more e is =
     step_by fs read token (tokens.String p) run b more e is

@@ -3,9 +3,9 @@ use Rattle.std.proofs.Common.{◌≡◌, ℕ, ◌+◌, ◌<◌, ◌≤◌, inl, 
 use Rattle.std.proofs.Common.{nat_le, List, [], ◌∷◌, ◌++◌, length, refl, sym, ap, ◌∙◌, subst}
 use Rattle.std.proofs.Common.{append_assoc, append-nil, length-append, arith}
 use Rattle.std.proofs.lemmas.Bool.Decides.{nat_tests}
-use Rattle.bencode_wire.specs.Tree.{dictionary, Pairs, add_pair, holds_key}
+use Rattle.bencode_wire.specs.Tree.{dictionary, TreePairs, add_pair, holds_key}
 use Rattle.bencode_wire.specs.Spelling.{text, put_sorted}
-use Rattle.bencode_wire.specs.Inside.Cut.{Frame, at_value, between, after_i, after_minus, digits, count}
+use Rattle.bencode_wire.specs.Inside.Cut.{OpenContainer, at_value, between, after_i, after_minus, digits, count}
 use Rattle.bencode_wire.specs.Inside.Cut.{part, Cut, cut, cut_text, IsCut, sorted_frames, sorted_cut}
 use Rattle.bencode_wire.specs.Fault.{StreamRule, malformed, too_long, too_deep}
 use Rattle.bencode_wire.specs.Inside.ByteSteps.{step_run, Judged, reads, whole, refuses, judged}
@@ -77,15 +77,15 @@ malformed_judged m (inr h) =
     ∙ ap (λ t. cond t (refuses malformed) (reads (cut (at_value r.pairs r.key ∷ r.frames) between))) r.has
 
 -- a length above the limit, as it is read
-large_read : (limit : ℕ) (m : List ℕ) → IsLarge limit m → (fs : List Frame) × (n : ℕ) × (read m ≡ goes fs (count n)) × (limit < n)
+large_read : (limit : ℕ) (m : List ℕ) → IsLarge limit m → (fs : List OpenContainer) × (n : ℕ) × (read m ≡ goes fs (count n)) × (limit < n)
 large_read limit m h = let r = large_at limit m h in (r.frames, r.len, cut_read m (cut r.frames (count r.len)) r.is r.text, r.large)
 
-opened : (f : Frame) (fs : List Frame) → IsEmpty f → next_of (cut (f ∷ fs) between) ≡ opens f fs
+opened : (f : OpenContainer) (fs : List OpenContainer) → IsEmpty f → next_of (cut (f ∷ fs) between) ≡ opens f fs
 opened f fs (inl e) = ap (λ g. next_of (cut (g ∷ fs) between)) e ∙ ap (λ g. opens g fs) (sym e)
 opened f fs (inr e) = ap (λ g. next_of (cut (g ∷ fs) between)) e ∙ ap (λ g. opens g fs) (sym e)
 
 -- a nesting too deep, as it is read
-deep_read : (m : List ℕ) → IsDeep m → (f : Frame) × (fs : List Frame) × (read m ≡ opens f fs) × (64 ≤ length fs)
+deep_read : (m : List ℕ) → IsDeep m → (f : OpenContainer) × (fs : List OpenContainer) × (read m ≡ opens f fs) × (64 ≤ length fs)
 deep_read m h = let r = deep_at m h in (r.frame, r.frames, cut_read m (cut (r.frame ∷ r.frames) between) r.is r.text ∙ opened r.frame r.frames r.empty, r.deep)
 
 -- what the rules make of bytes at their last
@@ -136,7 +136,7 @@ not_long limit m e h = let f = ge_of limit (length m) e in absurd (omega arith)
 not_malformed : (m : List ℕ) (j : Judged) → judged (read m) ≡ j → (j ≡ refuses malformed → ⊥) → IsMalformed m → ⊥
 not_malformed m j e other h = other (sym e ∙ malformed_judged m h)
 
-not_large : (limit : ℕ) (m : List ℕ) (next : ByteEffect) → read m ≡ next → ((fs : List Frame) (n : ℕ) → next ≡ goes fs (count n) → ⊥) → IsLarge limit m → ⊥
+not_large : (limit : ℕ) (m : List ℕ) (next : ByteEffect) → read m ≡ next → ((fs : List OpenContainer) (n : ℕ) → next ≡ goes fs (count n) → ⊥) → IsLarge limit m → ⊥
 not_large limit m next e other h = let is = large_read limit m h in other is.0 is.1 (sym e ∙ is.2)
 
 meets_at : (limit : ℕ) (m : List ℕ) (a rule : StreamRule) → refuses a ≡ refuses rule → Meets limit m a → Meets limit m rule
@@ -145,13 +145,13 @@ meets_at limit m a rule e h = let same : a ≡ rule = cc in subst (λ r. Meets l
 reads_refuses : {A : Type 0} → (c : Cut) (rule : StreamRule) → reads c ≡ refuses rule → A
 reads_refuses c rule e = absurd (cc)
 
-names_meets : (limit : ℕ) (m : List ℕ) (ps : Pairs) (key : List ℕ) (fs : List Frame) (rule : StreamRule) → (IsTooLong limit m → ⊥) → Sound (names ps key fs) m
+names_meets : (limit : ℕ) (m : List ℕ) (ps : TreePairs) (key : List ℕ) (fs : List OpenContainer) (rule : StreamRule) → (IsTooLong limit m → ⊥) → Sound (names ps key fs) m
     → (t : Bool) → holds_key key ps ≡ t → within_limit limit (cond t (refuses malformed) (reads (cut (at_value ps key ∷ fs) between))) ≡ refuses rule → Meets limit m rule
 names_meets limit m ps key fs rule brief s true has e =
     meets_at limit m malformed rule e (brief, inr (repeats_key m ps key fs s.0 s.1 has))
 names_meets limit m ps key fs rule brief s false has e = reads_refuses (cut (at_value ps key ∷ fs) between) rule e
 
-opens_meets : (limit : ℕ) (m : List ℕ) (f : Frame) (fs : List Frame) (rule : StreamRule) → (IsTooLong limit m → ⊥) → read m ≡ opens f fs → Sound (opens f fs) m
+opens_meets : (limit : ℕ) (m : List ℕ) (f : OpenContainer) (fs : List OpenContainer) (rule : StreamRule) → (IsTooLong limit m → ⊥) → read m ≡ opens f fs → Sound (opens f fs) m
     → (t : Bool) → nat_lt (length fs) 64 ≡ t → within_limit limit (cond t (reads (cut (f ∷ fs) between)) (refuses too_deep)) ≡ refuses rule → Meets limit m rule
 opens_meets limit m f fs rule brief is s true deep e = reads_refuses (cut (f ∷ fs) between) rule e
 opens_meets limit m f fs rule brief is s false deep e =
@@ -163,7 +163,7 @@ opens_meets limit m f fs rule brief is s false deep e =
       is_deep m f fs s.0 s.1 s.2 (ge_of (length fs) 64 deep),
     )
 
-count_meets : (limit : ℕ) (m : List ℕ) (fs : List Frame) (n : ℕ) (rule : StreamRule) → read m ≡ goes fs (count n) → Sound (goes fs (count n)) m
+count_meets : (limit : ℕ) (m : List ℕ) (fs : List OpenContainer) (n : ℕ) (rule : StreamRule) → read m ≡ goes fs (count n) → Sound (goes fs (count n)) m
     → (t : Bool) → nat_lt limit n ≡ t → cond t (refuses too_long) (reads (cut fs (count n))) ≡ refuses rule → Meets limit m rule
 count_meets limit m fs n rule is s true large e =
     meets_at limit m too_long rule e

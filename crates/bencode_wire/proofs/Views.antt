@@ -9,8 +9,8 @@ use Rattle.std.specs.List.Sorted.{IsStrictlySortedBy}
 use Rattle.std.specs.Map.{lookup, keys_of}
 use Rattle.std.specs.Ordering.{match_ordering, ordering_reverse}
 use Rattle.std.specs.BTreeMap.{insert_entry, is_at}
-use Rattle.bencode_wire.specs.Tree.{tree, Pairs, no_pairs, pair, add_tree, holds_key}
-use Rattle.bencode_wire.specs.Spelling.{put_sorted, put_pairs, sorted}
+use Rattle.bencode_wire.specs.Tree.{tree, TreePairs, no_pairs, pair, add_tree, holds_key}
+use Rattle.bencode_wire.specs.Spelling.{put_sorted, put_tree_pairs, sorted}
 use Rattle.bencode_wire.specs.Inside.View.{tree_view, trees_view, entries_view}
 use Rattle.bencode_wire.specs.declared.ben.Ben.{Ben}
 
@@ -67,7 +67,7 @@ put_last (first ∷ done) e more h =
     rw above (ap (pair first.0.items (tree_view first.1)) (put_last done e more h.1))
 
 -- the pairs, each value with its own sorted
-abbrev pub each_sorted : Pairs → Pairs
+abbrev pub each_sorted : TreePairs → TreePairs
 each_sorted no_pairs = no_pairs
 each_sorted (pair k t ps) = pair k (sorted t) (each_sorted ps)
 
@@ -81,15 +81,15 @@ put_last_sorted (first ∷ done) e more h =
     rw above (ap (pair first.0.items (sorted (tree_view first.1))) (put_last_sorted done e more h.1))
 
 put_pairs_behind : (done more : List Entry) → IsStrictlySortedBy key_cmp (keys_of (done ++ more))
-    → put_pairs (each_sorted (entries_view done)) (entries_view more) ≡ each_sorted (entries_view (done ++ more))
+    → put_tree_pairs (each_sorted (entries_view done)) (entries_view more) ≡ each_sorted (entries_view (done ++ more))
 put_pairs_behind done [] h = sym (ap (λ es. each_sorted (entries_view es)) (append-nil done))
 put_pairs_behind done (e ∷ more) h =
     let regroup : (done ++ e ∷ []) ++ more ≡ done ++ e ∷ more = append_assoc done (e ∷ []) more in
-    ap (λ ps. put_pairs ps (entries_view more)) (put_last_sorted done e more h)
+    ap (λ ps. put_tree_pairs ps (entries_view more)) (put_last_sorted done e more h)
     ∙ put_pairs_behind (done ++ e ∷ []) more (subst (λ es. IsStrictlySortedBy key_cmp (keys_of es)) (sym regroup) h)
     ∙ ap (λ es. each_sorted (entries_view es)) regroup
 
 -- a map's pairs stand sorted
-pub put_pairs-entries_view : (es : List Entry) → IsStrictlySortedBy key_cmp (keys_of es)
-    → put_pairs no_pairs (entries_view es) ≡ each_sorted (entries_view es)
-put_pairs-entries_view es h = put_pairs_behind [] es h
+pub put_tree_pairs-entries_view : (es : List Entry) → IsStrictlySortedBy key_cmp (keys_of es)
+    → put_tree_pairs no_pairs (entries_view es) ≡ each_sorted (entries_view es)
+put_tree_pairs-entries_view es h = put_pairs_behind [] es h

@@ -5,7 +5,7 @@ use Rattle.std.specs.Fmt.{signed_decimal}
 use Rattle.std.specs.Ordering.{nat_cmp, match_ordering}
 use Rattle.std.specs.Cmp.Lexicographic.{slice_cmp}
 use Rattle.bencode_wire.specs.Tree.{Tree, integer, string, list, dictionary, Trees, no_trees, tree}
-use Rattle.bencode_wire.specs.Tree.{Pairs, no_pairs, pair, HasKey}
+use Rattle.bencode_wire.specs.Tree.{TreePairs, no_pairs, pair, HasKey}
 
 abbrev pub integer_text : ℤ → List ℕ
 integer_text n = codes "i" ++ signed_decimal n ++ codes "e"
@@ -25,7 +25,7 @@ abbrev mutual
   trees_text no_trees = []
   trees_text (tree t ts) = text t ++ trees_text ts
 
-  pub pairs_text : Pairs → List ℕ
+  pub pairs_text : TreePairs → List ℕ
   pairs_text no_pairs = []
   pairs_text (pair key t ps) = string_text key ++ text t ++ pairs_text ps
 
@@ -54,7 +54,7 @@ abbrev mutual
   AreSpellable no_trees = Unit {0}
   AreSpellable (tree t ts) = IsSpellable t × AreSpellable ts
 
-  pub ArePairs : Pairs → Type 0
+  pub ArePairs : TreePairs → Type 0
   ArePairs no_pairs = Unit {0}
   ArePairs (pair key t ps) = IsString key × IsSpellable t × ArePairs ps
 
@@ -74,13 +74,13 @@ abbrev mutual
   AreDistinct no_trees = Unit {0}
   AreDistinct (tree t ts) = IsDistinct t × AreDistinct ts
 
-  pub PairsDistinct : Pairs → Type 0
+  pub PairsDistinct : TreePairs → Type 0
   PairsDistinct no_pairs = Unit {0}
   PairsDistinct (pair key t ps) = (HasKey key ps → ⊥) × IsDistinct t × PairsDistinct ps
 
 -- the pairs, sorted by their keys as raw bytes, with one more; a key that stands there takes the
 -- new value
-abbrev pub put_sorted : Pairs → List ℕ → Tree → Pairs
+abbrev pub put_sorted : TreePairs → List ℕ → Tree → TreePairs
 put_sorted no_pairs key t = pair key t no_pairs
 put_sorted (pair k u ps) key t =
     match_ordering (slice_cmp nat_cmp key k) (pair key t (pair k u ps)) (pair k t ps)
@@ -92,15 +92,15 @@ abbrev mutual
   sorted (integer n) = integer n
   sorted (string bytes) = string bytes
   sorted (list ts) = list (sorted_trees ts)
-  sorted (dictionary ps) = dictionary (put_pairs no_pairs ps)
+  sorted (dictionary ps) = dictionary (put_tree_pairs no_pairs ps)
 
   pub sorted_trees : Trees → Trees
   sorted_trees no_trees = no_trees
   sorted_trees (tree t ts) = tree (sorted t) (sorted_trees ts)
 
-  pub put_pairs : Pairs → Pairs → Pairs
-  put_pairs done no_pairs = done
-  put_pairs done (pair key t ps) = put_pairs (put_sorted done key (sorted t)) ps
+  pub put_tree_pairs : TreePairs → TreePairs → TreePairs
+  put_tree_pairs done no_pairs = done
+  put_tree_pairs done (pair key t ps) = put_tree_pairs (put_sorted done key (sorted t)) ps
 
 -- the spelling whose keys are sorted
 abbrev pub canonical : Tree → List ℕ

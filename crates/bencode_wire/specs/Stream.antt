@@ -2,7 +2,7 @@
 -- a byte's offset in the stream, from 0.
 use Rattle.std.specs.Prelude.{◌≡◌, ℕ, suc, ◌+◌, ◌<◌, ◌≤◌, ◌⊎◌, List, [], ◌∷◌, ◌++◌, length, codes}
 use Rattle.std.specs.Prelude.{decimal}
-use Rattle.bencode_wire.specs.Tree.{Tree, dictionary, Trees, Pairs, HasKey}
+use Rattle.bencode_wire.specs.Tree.{Tree, dictionary, Trees, TreePairs, HasKey}
 use Rattle.bencode_wire.specs.Spelling.{text, trees_text, pairs_text, string_text, IsLength}
 use Rattle.bencode_wire.specs.Spelling.{IsString, AreSpellable, ArePairs, sorted, Spells}
 use Rattle.bencode_wire.specs.Fault.{StreamRule, malformed, too_long, too_deep}
@@ -10,30 +10,31 @@ use Rattle.bencode_wire.specs.declared.reader.TheConstants.{MAX_NESTING}
 
 -- the bytes begin a dictionary of the grammar, equal keys being let pass
 abbrev pub BeginsMessage : List ℕ → Type 0
-BeginsMessage m = (ps : Pairs) × (more : List ℕ) × ArePairs ps × (text (dictionary ps) ≡ m ++ more)
+BeginsMessage m = (ps : TreePairs) × (more : List ℕ) × ArePairs ps
+    × (text (dictionary ps) ≡ m ++ more)
 
 mutual
   -- behind these bytes of a message a value is awaited, inside so many lists and dictionaries
   pub data AwaitsValue : ℕ → List ℕ → Type 0 where
     behind_items : (n : ℕ) (m : List ℕ) (ts : Trees) → AwaitsValue n m → AreSpellable ts
         → AwaitsValue (suc n) (m ++ (codes "l" ++ trees_text ts))
-    behind_key : (n : ℕ) (ps : Pairs) (m key : List ℕ) → AwaitsKey n ps m → IsString key
+    behind_key : (n : ℕ) (ps : TreePairs) (m key : List ℕ) → AwaitsKey n ps m → IsString key
         → AwaitsValue n (m ++ string_text key)
 
   -- a key is awaited, in a dictionary that has these pairs so far
-  pub data AwaitsKey : ℕ → Pairs → List ℕ → Type 0 where
-    of_message : (ps : Pairs) → ArePairs ps → AwaitsKey 1 ps (codes "d" ++ pairs_text ps)
-    of_value : (n : ℕ) (m : List ℕ) (ps : Pairs) → AwaitsValue n m → ArePairs ps
+  pub data AwaitsKey : ℕ → TreePairs → List ℕ → Type 0 where
+    of_message : (ps : TreePairs) → ArePairs ps → AwaitsKey 1 ps (codes "d" ++ pairs_text ps)
+    of_value : (n : ℕ) (m : List ℕ) (ps : TreePairs) → AwaitsValue n m → ArePairs ps
         → AwaitsKey (suc n) ps (m ++ (codes "d" ++ pairs_text ps))
 
 -- a string may begin behind these bytes
 abbrev pub AwaitsString : List ℕ → Type 0
-AwaitsString m = ((n : ℕ) × AwaitsValue n m) ⊎ ((n : ℕ) × (ps : Pairs) × AwaitsKey n ps m)
+AwaitsString m = ((n : ℕ) × AwaitsValue n m) ⊎ ((n : ℕ) × (ps : TreePairs) × AwaitsKey n ps m)
 
 -- the last byte ends a key that stood before in its dictionary
 abbrev pub RepeatsKey : List ℕ → Type 0
 RepeatsKey m =
-    (n : ℕ) × (ps : Pairs) × (front : List ℕ) × (key : List ℕ) × AwaitsKey n ps front
+    (n : ℕ) × (ps : TreePairs) × (front : List ℕ) × (key : List ℕ) × AwaitsKey n ps front
     × IsString key × HasKey key ps × (m ≡ front ++ string_text key)
 
 -- the last byte is a digit that makes a string's length greater than the limit
@@ -67,7 +68,7 @@ IsClean limit m = (front more : List ℕ) (rule : StreamRule) → m ≡ front ++
 
 -- the bytes spell a message, which a decoder hands out with its pairs sorted
 abbrev pub IsMessage : ℕ → Tree → List ℕ → Type 0
-IsMessage limit t m = (ps : Pairs) × (t ≡ dictionary ps) × (sorted t ≡ t) × Spells t m
+IsMessage limit t m = (ps : TreePairs) × (t ≡ dictionary ps) × (sorted t ≡ t) × Spells t m
     × IsClean limit m
 
 -- how a stream ends: with less than a message, or with a byte at which a rule applies
@@ -77,7 +78,7 @@ pub data StreamEnding : Type 0 where
 
 -- nothing, or a proper prefix of a message
 abbrev pub IsRest : ℕ → List ℕ → Type 0
-IsRest limit m = IsClean limit m × ((ps : Pairs) × (b : ℕ) × (more : List ℕ) × ArePairs ps
+IsRest limit m = IsClean limit m × ((ps : TreePairs) × (b : ℕ) × (more : List ℕ) × ArePairs ps
     × (text (dictionary ps) ≡ m ++ b ∷ more))
 
 -- what is left of a stream at a place, and how it ends

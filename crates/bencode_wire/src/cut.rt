@@ -7,13 +7,13 @@ use crate::ben::{Ben, Dictionary};
 #[derive(Drop)]
 pub(crate) struct Reader {
     // The innermost is last.
-    pub(crate) frames: Vec<Frame>,
+    pub(crate) frames: Vec<OpenContainer>,
     pub(crate) token: Token,
 }
 
 // A list or a dictionary that is open, with what it holds so far.
 #[derive(Drop)]
-pub(crate) enum Frame {
+pub(crate) enum OpenContainer {
     List(Vec<Ben>),
     Dictionary(OpenDictionary),
 }
@@ -60,7 +60,7 @@ pub(crate) struct PartOfString {
 
 // What a byte comes to.
 #[derive(Drop)]
-pub(crate) enum Progress {
+pub(crate) enum TokenProgress {
     Partial(Token),
     Whole(Ben),
 }

@@ -28,14 +28,14 @@ pub enum WireFault {
 
 // What a byte met, without its place.
 #[derive(Clone, Copy)]
-pub(crate) enum Refusal {
+pub(crate) enum WireFaultKind {
     NoMemory,
     Malformed,
     TooLong,
     TooDeep,
 }
 
-impl Refusal {
+impl WireFaultKind {
     ghost use Rattle.std.specs.Prelude.{◌≡◌};
     ghost use Rattle.bencode_wire.specs.Inside.Refusals.{refusal_at};
 
@@ -43,32 +43,32 @@ impl Refusal {
         ensures { result ≡ refusal_at self place }
     {
         match self {
-            Refusal::NoMemory => WireFault::NoMemory,
-            Refusal::Malformed => WireFault::Malformed(place),
-            Refusal::TooLong => WireFault::TooLong(place),
-            Refusal::TooDeep => WireFault::TooDeep(place),
+            WireFaultKind::NoMemory => WireFault::NoMemory,
+            WireFaultKind::Malformed => WireFault::Malformed(place),
+            WireFaultKind::TooLong => WireFault::TooLong(place),
+            WireFaultKind::TooDeep => WireFault::TooDeep(place),
         }
     }
 }
 
-impl From<AllocError> for Refusal {
+impl From<AllocError> for WireFaultKind {
     ghost use Rattle.std.specs.Prelude.{◌≡◌};
-    ghost use Rattle.bencode_wire.specs.declared.fault.Refusal.TheVariants.{NoMemory};
+    ghost use Rattle.bencode_wire.specs.declared.fault.WireFaultKind.TheVariants.{NoMemory};
 
     ghost from_gives = { λ _ e. e ≡ NoMemory };
 
-    fn from(_e: AllocError) -> Refusal {
-        Refusal::NoMemory
+    fn from(_e: AllocError) -> WireFaultKind {
+        WireFaultKind::NoMemory
     }
 }
 
-impl<T: Drop> From<AllocFailed<T>> for Refusal {
+impl<T: Drop> From<AllocFailed<T>> for WireFaultKind {
     ghost use Rattle.std.specs.Prelude.{◌≡◌};
-    ghost use Rattle.bencode_wire.specs.declared.fault.Refusal.TheVariants.{NoMemory};
+    ghost use Rattle.bencode_wire.specs.declared.fault.WireFaultKind.TheVariants.{NoMemory};
 
     ghost from_gives = { λ _ e. e ≡ NoMemory };
 
-    fn from(_e: AllocFailed<T>) -> Refusal {
-        Refusal::NoMemory
+    fn from(_e: AllocFailed<T>) -> WireFaultKind {
+        WireFaultKind::NoMemory
     }
 }

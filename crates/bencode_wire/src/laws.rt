@@ -1,10 +1,10 @@
 //! Laws of the spelling. The functions do nothing: what they ensure is proved of every value.
 ghost use Rattle.std.specs.Prelude.{◌≡◌, ℕ, ◌+◌, ◌≤◌, List, ◌∷◌, ◌++◌, length};
-ghost use Rattle.bencode_wire.specs.Tree.{Tree, Pairs, dictionary};
+ghost use Rattle.bencode_wire.specs.Tree.{Tree, TreePairs, dictionary};
 ghost use Rattle.bencode_wire.specs.Spelling.{text, canonical, sorted, Spells, IsSpellable};
 ghost use Rattle.bencode_wire.specs.Spelling.{IsDistinct};
 ghost use Rattle.bencode_wire.specs.Stream.{StreamEnding, Streams};
-ghost use Rattle.bencode_wire.specs.Inside.Nesting.{nesting};
+ghost use Rattle.bencode_wire.specs.Inside.Nesting.{tree_nesting};
 
 /// No spelling of a value is a proper prefix of a spelling of any value: where two begin the same
 /// bytes, they are the same, and so is what follows them.
@@ -48,9 +48,9 @@ pub fn every_stream_reads()
 /// What is spelled within the limits is read, whatever follows: each spelling of a dictionary is
 /// read as the dictionary, and the stream goes on behind it.
 pub fn a_spelling_is_read()
-    ensures { (limit place : ℕ) (ps : Pairs) (bytes more : List ℕ) (ts : List Tree)
+    ensures { (limit place : ℕ) (ps : TreePairs) (bytes more : List ℕ) (ts : List Tree)
         (end : StreamEnding)
-        → Spells (dictionary ps) bytes → nesting (dictionary ps) ≤ 64 → length bytes ≤ limit
+        → Spells (dictionary ps) bytes → tree_nesting (dictionary ps) ≤ 64 → length bytes ≤ limit
         → Streams limit (place + length bytes) more ts end
         → Streams limit place (bytes ++ more) (sorted (dictionary ps) ∷ ts) end }
 {}
@@ -58,8 +58,8 @@ pub fn a_spelling_is_read()
 /// What `write_into` wrote is read again, whatever follows, within the limits: of every dictionary
 /// whose integers and strings fit, as those of each `Ben` do (`write_into` says so).
 pub fn what_is_written_is_read()
-    ensures { (limit place : ℕ) (ps : Pairs) (more : List ℕ) (ts : List Tree) (end : StreamEnding)
-        → IsSpellable (dictionary ps) → nesting (dictionary ps) ≤ 64
+    ensures { (limit place : ℕ) (ps : TreePairs) (more : List ℕ) (ts : List Tree) (end : StreamEnding)
+        → IsSpellable (dictionary ps) → tree_nesting (dictionary ps) ≤ 64
         → length (canonical (dictionary ps)) ≤ limit
         → Streams limit (place + length (canonical (dictionary ps))) more ts end
         → Streams limit place (canonical (dictionary ps) ++ more)

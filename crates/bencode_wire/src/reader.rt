@@ -21,9 +21,10 @@ ghost use Rattle.bencode_wire.specs.Inside.Gives.{Puts, Yields, Steps};
 
 use crate::ben::{Ben, Dictionary};
 use crate::cut::{
-    Expected, Frame, OpenDictionary, PartOfInteger, PartOfString, Progress, Reader, Token,
+    Expected, OpenContainer, OpenDictionary, PartOfInteger, PartOfString, Reader, Token,
+    TokenProgress,
 };
-use crate::fault::Refusal;
+use crate::fault::WireFaultKind;
 use crate::fields::put_field;
 use crate::sign::Sign;
 use std::alloc::Global;
@@ -64,7 +65,7 @@ impl Reader {
         limit: usize,
         read: &[u8],
         run: usize,
-    ) -> Result<Option<Ben>, Refusal>
+    ) -> Result<Option<Ben>, WireFaultKind>
         requires some { 0 < run }
         requires come { come_of self.old.token + run ≤ length read.now }
         requires run { steps.TakesRun
@@ -102,7 +103,7 @@ impl Reader {
         part: PartOfString,
         read: &[u8],
         run: usize,
-    ) -> Result<Option<Ben>, Refusal>
+    ) -> Result<Option<Ben>, WireFaultKind>
         requires some { 0 < run }
         requires run { run ≤ part.left }
         requires come { part.length - part.left + run ≤ length read.now }
@@ -140,7 +141,7 @@ impl Reader {
     }
 
     // Reads the bytes of such a string.
-    pub(crate) fn read_short(&mut self, alloc: Global, string: &[u8]) -> Result<(), Refusal>
+    pub(crate) fn read_short(&mut self, alloc: Global, string: &[u8]) -> Result<(), WireFaultKind>
         requires { 0 < length self.old.frames.items }
         ensures put { Puts (judged (beginnings.put put_sorted (frames_view self.old.frames.items)
             (tree.string string.now))) (frames_view self.new.frames.items) result }
@@ -157,22 +158,22 @@ impl Reader {
     fn keep(
         &mut self,
         limit: usize,
-        progress: Result<Progress, Refusal>,
-    ) -> Result<Option<Ben>, Refusal>
+        progress: Result<TokenProgress, WireFaultKind>,
+    ) -> Result<Option<Ben>, WireFaultKind>
         ensures { (j : steps.Judged) (read : List ℕ)
             → Yields j (frames_view self.old.frames.items) progress
             → Steps (steps.within_limit limit j) read self.new result }
     {
         match progress {
-            Ok(Progress::Partial(token)) => {
+            Ok(TokenProgress::Partial(token)) => {
                 self.token = token;
                 if is_large(limit, token) {
-                    Err(Refusal::TooLong)
+                    Err(WireFaultKind::TooLong)
                 } else {
                     Ok(None)
                 }
             }
-            Ok(Progress::Whole(message)) => {
+            Ok(TokenProgress::Whole(message)) => {
                 self.token = Token::Between;
                 Ok(Some(message))
             }
@@ -203,18 +204,18 @@ fn is_large(limit: usize, token: Token) -> bool
     }
 }
 
-fn expected_in(frames: &[Frame]) -> Expected
+fn expected_in(frames: &[OpenContainer]) -> Expected
     ensures { result ≡ beginnings.expected_in (frames_view frames.now) }
 {
     match frames.last() {
         None => Expected::Message,
-        Some(Frame::List(_)) => Expected::ItemOrEnd,
-        Some(Frame::Dictionary(dictionary)) => expected_in_dictionary(dictionary),
+        Some(OpenContainer::List(_)) => Expected::ItemOrEnd,
+        Some(OpenContainer::Dictionary(dictionary)) => expected_in_dictionary(dictionary),
     }
 }
 
 fn expected_in_dictionary(dictionary: &OpenDictionary) -> Expected
-    ensures { (fs : List cuts.Frame) → result ≡ beginnings.expected_in
+    ensures { (fs : List cuts.OpenContainer) → result ≡ beginnings.expected_in
         (dictionary_view (entries_view dictionary.now.pairs.entries) dictionary.now.key ∷ fs) }
 {
     match dictionary.key {
@@ -224,7 +225,11 @@ fn expected_in_dictionary(dictionary: &OpenDictionary) -> Expected
 }
 
 // The first byte of a token.
-fn begin(alloc: Global, frames: &mut Vec<Frame>, sign: Sign) -> Result<Progress, Refusal>
+fn begin(
+    alloc: Global,
+    frames: &mut Vec<OpenContainer>,
+    sign: Sign,
+) -> Result<TokenProgress, WireFaultKind>
     ensures { Yields (judged (beginnings.begin put_sorted (frames_view frames.old.items) sign))
         (frames_view frames.new.items) result }
 {
@@ -236,33 +241,45 @@ fn begin(alloc: Global, frames: &mut Vec<Frame>, sign: Sign) -> Result<Progress,
     }
 }
 
-fn begin_message(alloc: Global, frames: &mut Vec<Frame>, sign: Sign) -> Result<Progress, Refusal>
+fn begin_message(
+    alloc: Global,
+    frames: &mut Vec<OpenContainer>,
+    sign: Sign,
+) -> Result<TokenProgress, WireFaultKind>
     ensures { Yields (judged (beginnings.begin_message (frames_view frames.old.items) sign))
         (frames_view frames.new.items) result }
 {
     match sign {
         Sign::Dictionary => open_dictionary(alloc, frames),
         Sign::Integer | Sign::List | Sign::End | Sign::Minus | Sign::Colon => {
-            Err(Refusal::Malformed)
+            Err(WireFaultKind::Malformed)
         }
-        Sign::Digit(_) | Sign::Other => Err(Refusal::Malformed),
+        Sign::Digit(_) | Sign::Other => Err(WireFaultKind::Malformed),
     }
 }
 
-fn begin_value(alloc: Global, frames: &mut Vec<Frame>, sign: Sign) -> Result<Progress, Refusal>
+fn begin_value(
+    alloc: Global,
+    frames: &mut Vec<OpenContainer>,
+    sign: Sign,
+) -> Result<TokenProgress, WireFaultKind>
     ensures { Yields (judged (beginnings.begin_value (frames_view frames.old.items) sign))
         (frames_view frames.new.items) result }
 {
     match sign {
-        Sign::Integer => Ok(Progress::Partial(Token::IntegerOpen)),
-        Sign::List => open(frames, Frame::List(Vec::new(alloc))),
+        Sign::Integer => Ok(TokenProgress::Partial(Token::IntegerOpen)),
+        Sign::List => open(frames, OpenContainer::List(Vec::new(alloc))),
         Sign::Dictionary => open_dictionary(alloc, frames),
-        Sign::Digit(digit) => Ok(Progress::Partial(Token::Length(usize::from(digit)))),
-        Sign::End | Sign::Minus | Sign::Colon | Sign::Other => Err(Refusal::Malformed),
+        Sign::Digit(digit) => Ok(TokenProgress::Partial(Token::Length(usize::from(digit)))),
+        Sign::End | Sign::Minus | Sign::Colon | Sign::Other => Err(WireFaultKind::Malformed),
     }
 }
 
-fn begin_item(alloc: Global, frames: &mut Vec<Frame>, sign: Sign) -> Result<Progress, Refusal>
+fn begin_item(
+    alloc: Global,
+    frames: &mut Vec<OpenContainer>,
+    sign: Sign,
+) -> Result<TokenProgress, WireFaultKind>
     ensures { Yields
         (judged (beginnings.begin_item put_sorted (frames_view frames.old.items) sign))
         (frames_view frames.new.items) result }
@@ -272,24 +289,27 @@ fn begin_item(alloc: Global, frames: &mut Vec<Frame>, sign: Sign) -> Result<Prog
         Sign::Integer | Sign::List | Sign::Dictionary | Sign::Digit(_) => {
             begin_value(alloc, frames, sign)
         }
-        Sign::Minus | Sign::Colon | Sign::Other => Err(Refusal::Malformed),
+        Sign::Minus | Sign::Colon | Sign::Other => Err(WireFaultKind::Malformed),
     }
 }
 
-fn begin_key(frames: &mut Vec<Frame>, sign: Sign) -> Result<Progress, Refusal>
+fn begin_key(frames: &mut Vec<OpenContainer>, sign: Sign) -> Result<TokenProgress, WireFaultKind>
     ensures { Yields
         (judged (beginnings.begin_key put_sorted (frames_view frames.old.items) sign))
         (frames_view frames.new.items) result }
 {
     match sign {
         Sign::End => close(frames),
-        Sign::Digit(digit) => Ok(Progress::Partial(Token::Length(usize::from(digit)))),
-        Sign::Integer | Sign::List | Sign::Dictionary => Err(Refusal::Malformed),
-        Sign::Minus | Sign::Colon | Sign::Other => Err(Refusal::Malformed),
+        Sign::Digit(digit) => Ok(TokenProgress::Partial(Token::Length(usize::from(digit)))),
+        Sign::Integer | Sign::List | Sign::Dictionary => Err(WireFaultKind::Malformed),
+        Sign::Minus | Sign::Colon | Sign::Other => Err(WireFaultKind::Malformed),
     }
 }
 
-fn open_dictionary(alloc: Global, frames: &mut Vec<Frame>) -> Result<Progress, Refusal>
+fn open_dictionary(
+    alloc: Global,
+    frames: &mut Vec<OpenContainer>,
+) -> Result<TokenProgress, WireFaultKind>
     ensures { Yields
         (judged (beginnings.opens (cuts.at_key tree.no_pairs) (frames_view frames.old.items)))
         (frames_view frames.new.items) result }
@@ -297,37 +317,40 @@ fn open_dictionary(alloc: Global, frames: &mut Vec<Frame>) -> Result<Progress, R
     let pairs = Dictionary::new(alloc);
     open(
         frames,
-        Frame::Dictionary(OpenDictionary { pairs, key: None }),
+        OpenContainer::Dictionary(OpenDictionary { pairs, key: None }),
     )
 }
 
-fn open(frames: &mut Vec<Frame>, frame: Frame) -> Result<Progress, Refusal>
+fn open(
+    frames: &mut Vec<OpenContainer>,
+    frame: OpenContainer,
+) -> Result<TokenProgress, WireFaultKind>
     ensures { Yields
         (judged (beginnings.opens (frame_view frame) (frames_view frames.old.items)))
         (frames_view frames.new.items) result }
 {
     if frames.len() < MAX_NESTING {
         frames.push(frame)?;
-        Ok(Progress::Partial(Token::Between))
+        Ok(TokenProgress::Partial(Token::Between))
     } else {
-        Err(Refusal::TooDeep)
+        Err(WireFaultKind::TooDeep)
     }
 }
 
 // The end of the innermost list or dictionary.
-fn close(frames: &mut Vec<Frame>) -> Result<Progress, Refusal>
+fn close(frames: &mut Vec<OpenContainer>) -> Result<TokenProgress, WireFaultKind>
     ensures { Yields (judged (beginnings.close put_sorted (frames_view frames.old.items)))
         (frames_view frames.new.items) result }
 {
     match pop(frames) {
-        Some(Frame::List(items)) => put(frames, Ben::List(items)),
-        Some(Frame::Dictionary(dictionary)) => close_dictionary(frames, dictionary),
-        None => Err(Refusal::Malformed),
+        Some(OpenContainer::List(items)) => put(frames, Ben::List(items)),
+        Some(OpenContainer::Dictionary(dictionary)) => close_dictionary(frames, dictionary),
+        None => Err(WireFaultKind::Malformed),
     }
 }
 
 // The innermost leaves.
-fn pop(frames: &mut Vec<Frame>) -> Option<Frame>
+fn pop(frames: &mut Vec<OpenContainer>) -> Option<OpenContainer>
     ensures { MatchOption result (frames_view frames.old.items ≡ [])
         (λ frame. frames_view frames.old.items ≡ frame_view frame ∷ frames_view frames.new.items) }
 {
@@ -335,9 +358,9 @@ fn pop(frames: &mut Vec<Frame>) -> Option<Frame>
 }
 
 fn close_dictionary(
-    frames: &mut Vec<Frame>,
+    frames: &mut Vec<OpenContainer>,
     dictionary: OpenDictionary,
-) -> Result<Progress, Refusal>
+) -> Result<TokenProgress, WireFaultKind>
     ensures { Yields (judged (beginnings.close put_sorted
         (dictionary_view (entries_view dictionary.pairs.entries) dictionary.key
         ∷ frames_view frames.old.items)))
@@ -346,46 +369,46 @@ fn close_dictionary(
     let OpenDictionary { pairs, key } = dictionary;
     match key {
         None => put(frames, Ben::Dictionary(pairs)),
-        Some(_) => Err(Refusal::Malformed),
+        Some(_) => Err(WireFaultKind::Malformed),
     }
 }
 
 // A value that is whole goes into the innermost list or dictionary, or is the message.
-fn put(frames: &mut Vec<Frame>, value: Ben) -> Result<Progress, Refusal>
+fn put(frames: &mut Vec<OpenContainer>, value: Ben) -> Result<TokenProgress, WireFaultKind>
     ensures { Yields
         (judged (beginnings.put put_sorted (frames_view frames.old.items) (tree_view value)))
         (frames_view frames.new.items) result }
 {
     match frames.last_mut() {
-        None => Ok(Progress::Whole(value)),
+        None => Ok(TokenProgress::Whole(value)),
         Some(innermost) => behind(put_into(innermost, value)),
     }
 }
 
 // Behind a value that was put into the innermost.
-fn behind(put: Result<(), Refusal>) -> Result<Progress, Refusal>
-    ensures { (j : steps.Judged) (fs : List cuts.Frame) → Puts j fs put → Yields j fs result }
+fn behind(put: Result<(), WireFaultKind>) -> Result<TokenProgress, WireFaultKind>
+    ensures { (j : steps.Judged) (fs : List cuts.OpenContainer) → Puts j fs put → Yields j fs result }
 {
     match put {
-        Ok(()) => Ok(Progress::Partial(Token::Between)),
+        Ok(()) => Ok(TokenProgress::Partial(Token::Between)),
         Err(refusal) => Err(refusal),
     }
 }
 
-fn put_into(innermost: &mut Frame, value: Ben) -> Result<(), Refusal>
-    ensures { (fs : List cuts.Frame) → Puts
+fn put_into(innermost: &mut OpenContainer, value: Ben) -> Result<(), WireFaultKind>
+    ensures { (fs : List cuts.OpenContainer) → Puts
         (judged (beginnings.put put_sorted (frame_view innermost.old ∷ fs) (tree_view value)))
         (frame_view innermost.new ∷ fs) result }
 {
     match innermost {
-        Frame::List(items) => put_item(items, value),
-        Frame::Dictionary(dictionary) => put_pair(dictionary, value),
+        OpenContainer::List(items) => put_item(items, value),
+        OpenContainer::Dictionary(dictionary) => put_pair(dictionary, value),
     }
 }
 
 #[tactic(auto, using(crate::proofs::Rules::item_steps))]
-fn put_item(items: &mut Vec<Ben>, item: Ben) -> Result<(), Refusal>
-    ensures { (fs : List cuts.Frame) → Puts (judged (beginnings.put put_sorted
+fn put_item(items: &mut Vec<Ben>, item: Ben) -> Result<(), WireFaultKind>
+    ensures { (fs : List cuts.OpenContainer) → Puts (judged (beginnings.put put_sorted
         (in_list (trees_view items.old.items) ∷ fs) (tree_view item)))
         (in_list (trees_view items.new.items) ∷ fs) result }
 {
@@ -394,8 +417,8 @@ fn put_item(items: &mut Vec<Ben>, item: Ben) -> Result<(), Refusal>
 }
 
 // A key, or the value of the key that stands before it.
-fn put_pair(dictionary: &mut OpenDictionary, value: Ben) -> Result<(), Refusal>
-    ensures { (fs : List cuts.Frame) → Puts (judged (beginnings.put put_sorted
+fn put_pair(dictionary: &mut OpenDictionary, value: Ben) -> Result<(), WireFaultKind>
+    ensures { (fs : List cuts.OpenContainer) → Puts (judged (beginnings.put put_sorted
         (dictionary_view (entries_view dictionary.old.pairs.entries) dictionary.old.key ∷ fs)
         (tree_view value)))
         (dictionary_view (entries_view dictionary.new.pairs.entries) dictionary.new.key ∷ fs)
@@ -412,29 +435,29 @@ fn put_pair(dictionary: &mut OpenDictionary, value: Ben) -> Result<(), Refusal>
 
 // A key has to be a string, and a key that stood before in its dictionary is refused at its last
 // byte.
-fn put_key(dictionary: &mut OpenDictionary, key: Ben) -> Result<(), Refusal>
+fn put_key(dictionary: &mut OpenDictionary, key: Ben) -> Result<(), WireFaultKind>
     requires { dictionary.old.key ≡ None }
-    ensures { (fs : List cuts.Frame) → Puts (judged (beginnings.put put_sorted
+    ensures { (fs : List cuts.OpenContainer) → Puts (judged (beginnings.put put_sorted
         (cuts.at_key (entries_view dictionary.old.pairs.entries) ∷ fs) (tree_view key)))
         (dictionary_view (entries_view dictionary.new.pairs.entries) dictionary.new.key ∷ fs)
         result }
 {
     match key {
         Ben::String(key) => put_name(dictionary, key),
-        Ben::Integer(_) => Err(Refusal::Malformed),
-        Ben::List(_) => Err(Refusal::Malformed),
-        Ben::Dictionary(_) => Err(Refusal::Malformed),
+        Ben::Integer(_) => Err(WireFaultKind::Malformed),
+        Ben::List(_) => Err(WireFaultKind::Malformed),
+        Ben::Dictionary(_) => Err(WireFaultKind::Malformed),
     }
 }
 
-fn put_name(dictionary: &mut OpenDictionary, key: Vec<u8>) -> Result<(), Refusal>
-    ensures { (fs : List cuts.Frame) → Puts (judged (beginnings.names
+fn put_name(dictionary: &mut OpenDictionary, key: Vec<u8>) -> Result<(), WireFaultKind>
+    ensures { (fs : List cuts.OpenContainer) → Puts (judged (beginnings.names
         (entries_view dictionary.old.pairs.entries) key.items fs))
         (dictionary_view (entries_view dictionary.new.pairs.entries) dictionary.new.key ∷ fs)
         result }
 {
     if has_key(&dictionary.pairs, &key) {
-        return Err(Refusal::Malformed);
+        return Err(WireFaultKind::Malformed);
     }
     dictionary.key = Some(key);
     Ok(())
@@ -446,50 +469,50 @@ fn has_key(pairs: &Dictionary, key: &Vec<u8>) -> bool
     pairs.contains_key(key)
 }
 
-fn insert(pairs: &mut Dictionary, key: Vec<u8>, value: Ben) -> Result<(), Refusal>
+fn insert(pairs: &mut Dictionary, key: Vec<u8>, value: Ben) -> Result<(), WireFaultKind>
     ensures ok { OnOk result (entries_view pairs.new.entries
         ≡ put_sorted (entries_view pairs.old.entries) key.items (tree_view value)) }
-    ensures err { IfErr result (λ e. e ≡ Refusal.NoMemory) }
+    ensures err { IfErr result (λ e. e ≡ WireFaultKind.NoMemory) }
 {
     put_field(pairs, key, value)?;
     Ok(())
 }
 
 // Behind `i`: a minus or the first digit.
-fn integer_open(sign: Sign) -> Result<Progress, Refusal>
-    ensures { (fs : List cuts.Frame) → Yields (judged (effects.integer_open fs sign)) fs result }
+fn integer_open(sign: Sign) -> Result<TokenProgress, WireFaultKind>
+    ensures { (fs : List cuts.OpenContainer) → Yields (judged (effects.integer_open fs sign)) fs result }
 {
     match sign {
-        Sign::Minus => Ok(Progress::Partial(Token::IntegerMinus)),
-        Sign::Digit(digit) => Ok(Progress::Partial(integer_part(false, u64::from(digit)))),
-        Sign::Integer | Sign::List | Sign::Dictionary => Err(Refusal::Malformed),
-        Sign::End | Sign::Colon | Sign::Other => Err(Refusal::Malformed),
+        Sign::Minus => Ok(TokenProgress::Partial(Token::IntegerMinus)),
+        Sign::Digit(digit) => Ok(TokenProgress::Partial(integer_part(false, u64::from(digit)))),
+        Sign::Integer | Sign::List | Sign::Dictionary => Err(WireFaultKind::Malformed),
+        Sign::End | Sign::Colon | Sign::Other => Err(WireFaultKind::Malformed),
     }
 }
 
 // Behind `i-`: a digit that is not zero.
-fn integer_minus(sign: Sign) -> Result<Progress, Refusal>
-    ensures { (fs : List cuts.Frame) → Yields (judged (effects.integer_minus fs sign)) fs result }
+fn integer_minus(sign: Sign) -> Result<TokenProgress, WireFaultKind>
+    ensures { (fs : List cuts.OpenContainer) → Yields (judged (effects.integer_minus fs sign)) fs result }
 {
     match sign {
         Sign::Digit(digit) => {
             if digit == 0 {
-                Err(Refusal::Malformed)
+                Err(WireFaultKind::Malformed)
             } else {
-                Ok(Progress::Partial(integer_part(true, u64::from(digit))))
+                Ok(TokenProgress::Partial(integer_part(true, u64::from(digit))))
             }
         }
-        Sign::Integer | Sign::List | Sign::Dictionary => Err(Refusal::Malformed),
-        Sign::End | Sign::Minus | Sign::Colon | Sign::Other => Err(Refusal::Malformed),
+        Sign::Integer | Sign::List | Sign::Dictionary => Err(WireFaultKind::Malformed),
+        Sign::End | Sign::Minus | Sign::Colon | Sign::Other => Err(WireFaultKind::Malformed),
     }
 }
 
 // Behind a digit of an integer: another digit, unless the number is zero, or the end.
 fn integer_digits(
-    frames: &mut Vec<Frame>,
+    frames: &mut Vec<OpenContainer>,
     part: PartOfInteger,
     sign: Sign,
-) -> Result<Progress, Refusal>
+) -> Result<TokenProgress, WireFaultKind>
     ensures { Yields (judged (effects.integer_digits put_sorted
         (frames_view frames.old.items) part.is_negative part.value sign))
         (frames_view frames.new.items) result }
@@ -498,21 +521,21 @@ fn integer_digits(
     match sign {
         Sign::End => put(frames, Ben::Integer(integer_with_sign(is_negative, value))),
         Sign::Digit(digit) => more_digits(is_negative, value, digit),
-        Sign::Integer | Sign::List | Sign::Dictionary => Err(Refusal::Malformed),
-        Sign::Minus | Sign::Colon | Sign::Other => Err(Refusal::Malformed),
+        Sign::Integer | Sign::List | Sign::Dictionary => Err(WireFaultKind::Malformed),
+        Sign::Minus | Sign::Colon | Sign::Other => Err(WireFaultKind::Malformed),
     }
 }
 
-fn more_digits(is_negative: bool, value: u64, digit: u8) -> Result<Progress, Refusal>
-    ensures { (fs : List cuts.Frame) → Yields
+fn more_digits(is_negative: bool, value: u64, digit: u8) -> Result<TokenProgress, WireFaultKind>
+    ensures { (fs : List cuts.OpenContainer) → Yields
         (judged (effects.more_digits fs is_negative value digit)) fs result }
 {
     if value == 0 {
-        return Err(Refusal::Malformed);
+        return Err(WireFaultKind::Malformed);
     }
     match with_digit(value, digit, greatest(is_negative)) {
-        None => Err(Refusal::Malformed),
-        Some(value) => Ok(Progress::Partial(integer_part(is_negative, value))),
+        None => Err(WireFaultKind::Malformed),
+        Some(value) => Ok(TokenProgress::Partial(integer_part(is_negative, value))),
     }
 }
 
@@ -563,43 +586,47 @@ fn integer_with_sign(is_negative: bool, value: u64) -> i64
 // Behind a digit of a string's length: another digit, unless the length is zero, or the colon.
 fn length_digits(
     alloc: Global,
-    frames: &mut Vec<Frame>,
+    frames: &mut Vec<OpenContainer>,
     len: usize,
     sign: Sign,
-) -> Result<Progress, Refusal>
+) -> Result<TokenProgress, WireFaultKind>
     ensures { Yields (judged (effects.length_digits put_sorted
         (frames_view frames.old.items) len sign)) (frames_view frames.new.items) result }
 {
     match sign {
         Sign::Colon => open_string(alloc, frames, len),
         Sign::Digit(digit) => more_length(len, digit),
-        Sign::Integer | Sign::List | Sign::Dictionary => Err(Refusal::Malformed),
-        Sign::End | Sign::Minus | Sign::Other => Err(Refusal::Malformed),
+        Sign::Integer | Sign::List | Sign::Dictionary => Err(WireFaultKind::Malformed),
+        Sign::End | Sign::Minus | Sign::Other => Err(WireFaultKind::Malformed),
     }
 }
 
-fn more_length(len: usize, digit: u8) -> Result<Progress, Refusal>
-    ensures { (fs : List cuts.Frame) → Yields (judged (effects.more_length fs len digit)) fs
+fn more_length(len: usize, digit: u8) -> Result<TokenProgress, WireFaultKind>
+    ensures { (fs : List cuts.OpenContainer) → Yields (judged (effects.more_length fs len digit)) fs
         result }
 {
     if len == 0 {
-        return Err(Refusal::Malformed);
+        return Err(WireFaultKind::Malformed);
     }
     match with_digit(len as u64, digit, u64::MAX) {
-        Some(len) => Ok(Progress::Partial(Token::Length(len as usize))),
+        Some(len) => Ok(TokenProgress::Partial(Token::Length(len as usize))),
         // It is above each limit.
-        None => Err(Refusal::TooLong),
+        None => Err(WireFaultKind::TooLong),
     }
 }
 
-fn open_string(alloc: Global, frames: &mut Vec<Frame>, len: usize) -> Result<Progress, Refusal>
+fn open_string(
+    alloc: Global,
+    frames: &mut Vec<OpenContainer>,
+    len: usize,
+) -> Result<TokenProgress, WireFaultKind>
     ensures { Yields (judged (effects.open_string put_sorted (frames_view frames.old.items) len))
         (frames_view frames.new.items) result }
 {
     if len == 0 {
         put(frames, Ben::String(Vec::new(alloc)))
     } else {
-        Ok(Progress::Partial(Token::String(PartOfString {
+        Ok(TokenProgress::Partial(Token::String(PartOfString {
             length: len,
             left: len,
         })))

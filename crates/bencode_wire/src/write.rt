@@ -1,7 +1,7 @@
 // Spelling a value. A dictionary's keys come sorted as raw bytes, which is the order of its map.
 ghost use Rattle.std.specs.Prelude.{◌≡◌, ◌++◌, IfOk, OnOk, OnErr, codes, length, take};
 ghost use Rattle.bencode_wire.specs.Inside.View.{tree_view, trees_view, entries_view};
-ghost use Rattle.bencode_wire.specs.Spelling.{canonical, sorted_trees, put_pairs, trees_text};
+ghost use Rattle.bencode_wire.specs.Spelling.{canonical, sorted_trees, put_tree_pairs, trees_text};
 ghost use Rattle.bencode_wire.specs.Spelling.{pairs_text, string_text, integer_text, IsInteger};
 ghost use Rattle.bencode_wire.specs.Spelling.{IsString, IsSpellable, AreSpellable, ArePairs};
 ghost use Rattle.bencode_wire.specs.Tree.{no_pairs};
@@ -91,7 +91,7 @@ fn spell_pairs(pairs: &Dictionary, out: &mut Vec<u8>) -> Result<(), AllocError>
     ensures front { take (length out.old.items) out.new.items ≡ out.old.items }
     ensures fits { OnOk result (ArePairs (entries_view pairs.now.entries)) }
     ensures text { OnOk result (out.new.items
-        ≡ out.old.items ++ pairs_text (put_pairs no_pairs (entries_view pairs.now.entries))) }
+        ≡ out.old.items ++ pairs_text (put_tree_pairs no_pairs (entries_view pairs.now.entries))) }
 {
     for (key, value) in pairs.iter() {
         spell_string(key, out)?;

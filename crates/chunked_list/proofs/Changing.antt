@@ -3,9 +3,9 @@ use Rattle.std.proofs.Common.{◌≡◌, ℕ, zero, suc, ◌+◌, ◌-◌, ◌<�
 use Rattle.std.proofs.lemmas.List.{take-append-drop}
 use Rattle.std.proofs.lemmas.List.Edits.{insert-append_left, insert-append_right}
 use Rattle.std.specs.List.{insert, remove}
-use Rattle.chunked_list.specs.Changes.{changed, HasPlace}
-use Rattle.chunked_list.specs.declared.changes.Change.{Change}
-use Rattle.chunked_list.specs.declared.changes.Change.TheVariants as is
+use Rattle.chunked_list.specs.Changes.{numbers_changed, HasNumberPlace}
+use Rattle.chunked_list.specs.declared.changes.NumberChange.{NumberChange}
+use Rattle.chunked_list.specs.declared.changes.NumberChange.TheVariants as is
 
 remove-left : (xs ys : List ℕ) (n : ℕ) → n < length xs → remove (xs ++ ys) n ≡ remove xs n ++ ys
 remove-left [] ys n h = absurd (omega (arith, h))
@@ -19,13 +19,13 @@ remove-right [] ys n m e =
 remove-right (x ∷ xs) ys zero m e = absurd (omega (arith, e))
 remove-right (x ∷ xs) ys (suc n) m e = ap (λ (es : List ℕ). x ∷ es) (remove-right xs ys n m (omega (arith, e)))
 
-pub changed-left : (c : Change) (n : ℕ) (xs ys : List ℕ) → HasPlace c n (length xs) → changed c n (xs ++ ys) ≡ changed c n xs ++ ys
-changed-left (is.Insert v) n xs ys h = insert-append_left xs ys n v h
-changed-left is.Remove n xs ys h = remove-left xs ys n h
+pub numbers_changed-left : (c : NumberChange) (n : ℕ) (xs ys : List ℕ) → HasNumberPlace c n (length xs) → numbers_changed c n (xs ++ ys) ≡ numbers_changed c n xs ++ ys
+numbers_changed-left (is.Insert v) n xs ys h = insert-append_left xs ys n v h
+numbers_changed-left is.Remove n xs ys h = remove-left xs ys n h
 
-pub changed-right : (c : Change) (n : ℕ) (xs ys : List ℕ) → length xs ≤ n → changed c n (xs ++ ys) ≡ xs ++ changed c (n - length xs) ys
-changed-right (is.Insert v) n xs ys h = insert-append_right xs ys (length xs) n v refl h
-changed-right is.Remove n xs ys h = remove-right xs ys n (n - length xs) (omega (arith, h))
+pub numbers_changed-right : (c : NumberChange) (n : ℕ) (xs ys : List ℕ) → length xs ≤ n → numbers_changed c n (xs ++ ys) ≡ xs ++ numbers_changed c (n - length xs) ys
+numbers_changed-right (is.Insert v) n xs ys h = insert-append_right xs ys (length xs) n v refl h
+numbers_changed-right is.Remove n xs ys h = remove-right xs ys n (n - length xs) (omega (arith, h))
 
 -- one more number in the second part of a list
 pub insert-rest : (xs fs bs es rs : List ℕ) (h n v : ℕ) → fs ≡ take h xs → bs ≡ drop h xs → length fs ≤ n

@@ -96,15 +96,15 @@ below-front m (x ∷ xs) ys zs e r h =
     let all = x ∷ xs in
     let end : numbers_last all ≡ get_or all (length xs) 0 = last-got all (length xs) (omega arith) in
     let over : (k : ℕ) → k < length ys → m ≤ get_or ys k 0 =
-        λ k l.
-        omega (
-          arith,
-          h,
-          end,
-          get_or_append_left all ys 0 (length xs) (omega arith),
-          get_or-append-add all ys k 0,
-          rising (length xs) (length all + k) (omega arith) (omega (arith, l, length-append all ys)),
-        ) in
+    λ k l.
+    omega (
+      arith,
+      h,
+      end,
+      get_or_append_left all ys 0 (length xs) (omega arith),
+      get_or-append-add all ys k 0,
+      rising (length xs) (length all + k) (omega arith) (omega (arith, l, length-append all ys)),
+    ) in
     omega (
       arith,
       ap (below m) e,

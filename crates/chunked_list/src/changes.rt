@@ -1,47 +1,51 @@
 // A change of one number.
 ghost use Rattle.std.specs.Prelude.{◌≡◌, ◌<◌, ◌≤◌, IfOk, IfSome, length, is_ok, true, false, if◌then◌else◌};
 ghost use Rattle.std.specs.List.{insert};
-ghost use Rattle.chunked_list.specs.Nodes.{shown, held, Keeps};
-ghost use Rattle.chunked_list.specs.Changes.{changed, HasPlace};
+ghost use Rattle.chunked_list.specs.Nodes.{numbers_shown, numbers_held, KeepsNumbers};
+ghost use Rattle.chunked_list.specs.Changes.{numbers_changed, HasNumberPlace};
 
 use crate::forks::{LEAF, fork, last_of_both, leaf, single};
 use crate::reads::last_number;
-use crate::tree::{Node, Shape, Tree};
+use crate::tree::{NumbersNode, NumbersShape, NumbersTree};
 use std::alloc::{AllocError, Global};
 use std::sync::Arc;
 
 // What is done at a place.
 #[derive(Clone, Copy)]
-pub(crate) enum Change {
+pub(crate) enum NumberChange {
     Insert(usize),
     Remove,
 }
 
 // Does the change among the numbers of a leaf.
-fn change_items(items: &mut Vec<usize>, place: usize, change: Change) -> Result<(), AllocError>
-    requires in_range { HasPlace change place (length items.old.items) }
+fn change_items(
+    items: &mut Vec<usize>,
+    place: usize,
+    change: NumberChange,
+) -> Result<(), AllocError>
+    requires in_range { HasNumberPlace change place (length items.old.items) }
     ensures items { items.new.items ≡ (if is_ok result
-        then changed change place items.old.items
+        then numbers_changed change place items.old.items
         else items.old.items) }
 {
     match change {
-        Change::Insert(number) => items.insert(place, number)?,
-        Change::Remove => {
+        NumberChange::Insert(number) => items.insert(place, number)?,
+        NumberChange::Remove => {
             let _taken = items.remove(place);
         }
     }
     Ok(())
 }
 
-impl Change {
+impl NumberChange {
     // Whether a change at the place is one of the first so many numbers.
     fn goes_left(self, place: usize, count: usize) -> bool
-        ensures left { result ≡ true → HasPlace self place count }
+        ensures left { result ≡ true → HasNumberPlace self place count }
         ensures right { result ≡ false → count ≤ place }
     {
         match self {
-            Change::Insert(_) => place <= count,
-            Change::Remove => place < count,
+            NumberChange::Insert(_) => place <= count,
+            NumberChange::Remove => place < count,
         }
     }
 }
@@ -49,29 +53,29 @@ impl Change {
 // Does the change below a node that nobody else holds.
 #[cycle(change)]
 fn change_node(
-    node: &mut Node,
+    node: &mut NumbersNode,
     alloc: Global,
     place: usize,
-    change: Change,
+    change: NumberChange,
 ) -> Result<(), AllocError>
-    requires kept { Keeps node.old }
-    requires in_range { HasPlace change place (length (shown node.old.shape)) }
-    ensures kept { Keeps node.new }
-    ensures items { shown node.new.shape ≡ (if is_ok result
-        then changed change place (shown node.old.shape)
-        else shown node.old.shape) }
+    requires kept { KeepsNumbers node.old }
+    requires in_range { HasNumberPlace change place (length (numbers_shown node.old.shape)) }
+    ensures kept { KeepsNumbers node.new }
+    ensures items { numbers_shown node.new.shape ≡ (if is_ok result
+        then numbers_changed change place (numbers_shown node.old.shape)
+        else numbers_shown node.old.shape) }
 {
     if node.len == usize::MAX {
         return Err(AllocError);
     }
     match &mut node.shape {
-        Shape::Leaf(items) => {
+        NumbersShape::Leaf(items) => {
             change_items(items, place, change)?;
             node.len = items.len();
             node.last = last_number(items);
             Ok(())
         }
-        Shape::Fork(left, right) => {
+        NumbersShape::Fork(left, right) => {
             let before = left.len();
             if change.goes_left(place, before) {
                 left.change(alloc, place, change)?;
@@ -86,21 +90,21 @@ fn change_node(
     }
 }
 
-impl Tree {
+impl NumbersTree {
     // Does the change. After an error the numbers are as they were.
     #[cycle(change)]
     pub(crate) fn change(
         &mut self,
         alloc: Global,
         place: usize,
-        change: Change,
+        change: NumberChange,
     ) -> Result<(), AllocError>
-        requires in_range { HasPlace change place (length self.old.items) }
+        requires in_range { HasNumberPlace change place (length self.old.items) }
         ensures { self.new.items ≡ (if is_ok result
-            then changed change place self.old.items
+            then numbers_changed change place self.old.items
             else self.old.items) }
     {
-        if let Change::Insert(number) = change {
+        if let NumberChange::Insert(number) = change {
             if let Some(wider) = self.widened(alloc, place, number)? {
                 *self = wider;
                 return Ok(());
@@ -114,11 +118,11 @@ impl Tree {
         &mut self,
         alloc: Global,
         place: usize,
-        change: Change,
+        change: NumberChange,
     ) -> Result<(), AllocError>
-        requires in_range { HasPlace change place (length self.old.items) }
+        requires in_range { HasNumberPlace change place (length self.old.items) }
         ensures { self.new.items ≡ (if is_ok result
-            then changed change place self.old.items
+            then numbers_changed change place self.old.items
             else self.old.items) }
     {
         self.own(alloc)?;
@@ -137,12 +141,12 @@ impl Tree {
         alloc: Global,
         place: usize,
         number: usize,
-    ) -> Result<Option<Tree>, AllocError>
+    ) -> Result<Option<NumbersTree>, AllocError>
         requires { place ≤ length self.now.items }
         ensures { IfOk result (λ found. IfSome found
             (λ made. made.items ≡ insert self.now.items place number)) }
     {
-        let Shape::Leaf(items) = &self.node.shape else {
+        let NumbersShape::Leaf(items) = &self.node.shape else {
             return Ok(None);
         };
         if items.len() < LEAF {
@@ -159,7 +163,12 @@ impl Tree {
 }
 
 // The two halves of a leaf, one of them with one more number.
-fn halves(alloc: Global, items: &[usize], place: usize, number: usize) -> Result<Tree, AllocError>
+fn halves(
+    alloc: Global,
+    items: &[usize],
+    place: usize,
+    number: usize,
+) -> Result<NumbersTree, AllocError>
     requires { place ≤ length items.now }
     ensures { IfOk result (λ made. made.items ≡ insert items.now place number) }
 {

@@ -1,17 +1,17 @@
 // Copies: one more owner of what a tree shares.
 ghost use Rattle.std.specs.Prelude.{◌≡◌, IfOk};
-ghost use Rattle.chunked_list.specs.Nodes.{seen, shown, held, Keeps};
+ghost use Rattle.chunked_list.specs.Nodes.{numbers_seen, numbers_shown, numbers_held, KeepsNumbers};
 
-use crate::tree::{Node, Shape, Tree};
+use crate::tree::{NumbersNode, NumbersShape, NumbersTree};
 use std::alloc::{AllocError, Global};
 use std::sync::Arc;
 
-impl Tree {
+impl NumbersTree {
     // The same numbers, in one step and with no memory. It fails only where 2^63 owners share them.
-    pub(crate) fn copy(&self) -> Result<Tree, AllocError>
+    pub(crate) fn copy(&self) -> Result<NumbersTree, AllocError>
         ensures { IfOk result (λ copied. copied ≡ self.now) }
     {
-        Ok(Tree {
+        Ok(NumbersTree {
             node: Arc::try_clone(&self.node)?,
         })
     }
@@ -28,12 +28,12 @@ impl Tree {
     }
 }
 
-fn copy_node(alloc: Global, node: &Node) -> Result<Node, AllocError>
-    ensures same { IfOk result (λ copied. seen copied ≡ seen node.now) }
-    ensures kept { IfOk result (λ copied. Keeps node.now → Keeps copied) }
+fn copy_node(alloc: Global, node: &NumbersNode) -> Result<NumbersNode, AllocError>
+    ensures same { IfOk result (λ copied. numbers_seen copied ≡ numbers_seen node.now) }
+    ensures kept { IfOk result (λ copied. KeepsNumbers node.now → KeepsNumbers copied) }
 {
     let shape = copy_shape(alloc, &node.shape)?;
-    Ok(Node {
+    Ok(NumbersNode {
         len: node.len,
         last: node.last,
         height: node.height,
@@ -41,12 +41,12 @@ fn copy_node(alloc: Global, node: &Node) -> Result<Node, AllocError>
     })
 }
 
-fn copy_shape(alloc: Global, shape: &Shape) -> Result<Shape, AllocError>
-    ensures same_items { IfOk result (λ copied. shown copied ≡ shown shape.now) }
-    ensures same_size { IfOk result (λ copied. held copied ≡ held shape.now) }
+fn copy_shape(alloc: Global, shape: &NumbersShape) -> Result<NumbersShape, AllocError>
+    ensures same_items { IfOk result (λ copied. numbers_shown copied ≡ numbers_shown shape.now) }
+    ensures same_size { IfOk result (λ copied. numbers_held copied ≡ numbers_held shape.now) }
 {
     match shape {
-        Shape::Leaf(items) => Ok(Shape::Leaf(Vec::from_slice(alloc, items)?)),
-        Shape::Fork(left, right) => Ok(Shape::Fork(left.copy()?, right.copy()?)),
+        NumbersShape::Leaf(items) => Ok(NumbersShape::Leaf(Vec::from_slice(alloc, items)?)),
+        NumbersShape::Fork(left, right) => Ok(NumbersShape::Fork(left.copy()?, right.copy()?)),
     }
 }

@@ -3,7 +3,7 @@ ghost use Rattle.std.specs.Prelude.{◌≡◌, [], ◌∷◌, ◌++◌, IfOk, If
 ghost use Rattle.chunked_list.specs.Nodes.{numbers_last};
 
 use crate::reads::last_number;
-use crate::tree::{Node, Shape, Tree};
+use crate::tree::{NumbersNode, NumbersShape, NumbersTree};
 use std::alloc::{AllocError, Global};
 use std::sync::Arc;
 
@@ -11,21 +11,21 @@ use std::sync::Arc;
 pub(crate) const LEAF: usize = 64;
 
 // A leaf of these numbers.
-pub(crate) fn leaf(alloc: Global, items: Vec<usize>) -> Result<Tree, AllocError>
+pub(crate) fn leaf(alloc: Global, items: Vec<usize>) -> Result<NumbersTree, AllocError>
     ensures { IfOk result (λ made. made.items ≡ items.items) }
 {
-    let node = Node {
+    let node = NumbersNode {
         len: items.len(),
         last: last_number(&items),
         height: 0,
-        shape: Shape::Leaf(items),
+        shape: NumbersShape::Leaf(items),
     };
     let node = Arc::new(alloc, node)?;
-    Ok(Tree { node })
+    Ok(NumbersTree { node })
 }
 
 // A leaf of one number.
-pub(crate) fn single(alloc: Global, number: usize) -> Result<Tree, AllocError>
+pub(crate) fn single(alloc: Global, number: usize) -> Result<NumbersTree, AllocError>
     ensures { IfOk result (λ made. made.items ≡ number ∷ []) }
 {
     let mut items = Vec::new(alloc);
@@ -34,25 +34,29 @@ pub(crate) fn single(alloc: Global, number: usize) -> Result<Tree, AllocError>
 }
 
 // The numbers of two trees. It fails for want of memory, or where there would be 2^64 numbers.
-pub(crate) fn fork(alloc: Global, left: Tree, right: Tree) -> Result<Tree, AllocError>
+pub(crate) fn fork(
+    alloc: Global,
+    left: NumbersTree,
+    right: NumbersTree,
+) -> Result<NumbersTree, AllocError>
     ensures { IfOk result (λ made. made.items ≡ left.items ++ right.items) }
 {
     let Some(len) = left.len().checked_add(right.len()) else {
         return Err(AllocError);
     };
     let height = left.height().max(right.height()).saturating_add(1);
-    let node = Node {
+    let node = NumbersNode {
         len,
         last: last_of_both(&left, &right),
         height,
-        shape: Shape::Fork(left, right),
+        shape: NumbersShape::Fork(left, right),
     };
     let node = Arc::new(alloc, node)?;
-    Ok(Tree { node })
+    Ok(NumbersTree { node })
 }
 
 // The last number of the right tree, or of the left one where the right one has none.
-pub(crate) fn last_of_both(left: &Tree, right: &Tree) -> usize
+pub(crate) fn last_of_both(left: &NumbersTree, right: &NumbersTree) -> usize
     ensures { result ≡ numbers_last (left.now.items ++ right.now.items) }
 {
     if right.is_empty() {
@@ -63,7 +67,7 @@ pub(crate) fn last_of_both(left: &Tree, right: &Tree) -> usize
 }
 
 // A tree of these numbers, whose leaves have as many or one fewer. It fails only for want of memory.
-pub(crate) fn tree_of(alloc: Global, numbers: &[usize]) -> Result<Tree, AllocError>
+pub(crate) fn tree_of(alloc: Global, numbers: &[usize]) -> Result<NumbersTree, AllocError>
     ensures { IfOk result (λ made. made.items ≡ numbers.now) }
 {
     if numbers.len() <= LEAF {
@@ -74,14 +78,18 @@ pub(crate) fn tree_of(alloc: Global, numbers: &[usize]) -> Result<Tree, AllocErr
 }
 
 // The numbers of both, in one leaf, where both are small leaves.
-fn merged(alloc: Global, left: &Tree, right: &Tree) -> Result<Option<Tree>, AllocError>
+fn merged(
+    alloc: Global,
+    left: &NumbersTree,
+    right: &NumbersTree,
+) -> Result<Option<NumbersTree>, AllocError>
     ensures { IfOk result
         (λ found. IfSome found (λ made. made.items ≡ left.now.items ++ right.now.items)) }
 {
-    let Shape::Leaf(first) = &left.node.shape else {
+    let NumbersShape::Leaf(first) = &left.node.shape else {
         return Ok(None);
     };
-    let Shape::Leaf(second) = &right.node.shape else {
+    let NumbersShape::Leaf(second) = &right.node.shape else {
         return Ok(None);
     };
     if first.len().saturating_add(second.len()) > LEAF / 2 {
@@ -94,14 +102,18 @@ fn merged(alloc: Global, left: &Tree, right: &Tree) -> Result<Option<Tree>, Allo
 
 // The numbers of two trees, the left one the higher by more than one, in forks that are less out
 // of balance. It fails for want of memory, or where there would be 2^64 numbers.
-fn lean_right(alloc: Global, left: &Tree, right: &Tree) -> Result<Tree, AllocError>
+fn lean_right(
+    alloc: Global,
+    left: &NumbersTree,
+    right: &NumbersTree,
+) -> Result<NumbersTree, AllocError>
     ensures { IfOk result (λ made. made.items ≡ left.now.items ++ right.now.items) }
 {
-    let Shape::Fork(a, b) = &left.node.shape else {
+    let NumbersShape::Fork(a, b) = &left.node.shape else {
         return fork(alloc, left.copy()?, right.copy()?);
     };
     if a.height() < b.height() {
-        if let Shape::Fork(c, d) = &b.node.shape {
+        if let NumbersShape::Fork(c, d) = &b.node.shape {
             let first = fork(alloc, a.copy()?, c.copy()?)?;
             let second = fork(alloc, d.copy()?, right.copy()?)?;
             return fork(alloc, first, second);
@@ -112,14 +124,18 @@ fn lean_right(alloc: Global, left: &Tree, right: &Tree) -> Result<Tree, AllocErr
 }
 
 // The same where the right tree is the higher one.
-fn lean_left(alloc: Global, left: &Tree, right: &Tree) -> Result<Tree, AllocError>
+fn lean_left(
+    alloc: Global,
+    left: &NumbersTree,
+    right: &NumbersTree,
+) -> Result<NumbersTree, AllocError>
     ensures { IfOk result (λ made. made.items ≡ left.now.items ++ right.now.items) }
 {
-    let Shape::Fork(a, b) = &right.node.shape else {
+    let NumbersShape::Fork(a, b) = &right.node.shape else {
         return fork(alloc, left.copy()?, right.copy()?);
     };
     if b.height() < a.height() {
-        if let Shape::Fork(c, d) = &a.node.shape {
+        if let NumbersShape::Fork(c, d) = &a.node.shape {
             let first = fork(alloc, left.copy()?, c.copy()?)?;
             let second = fork(alloc, d.copy()?, b.copy()?)?;
             return fork(alloc, first, second);
@@ -129,7 +145,7 @@ fn lean_left(alloc: Global, left: &Tree, right: &Tree) -> Result<Tree, AllocErro
     fork(alloc, first, b.copy()?)
 }
 
-impl Tree {
+impl NumbersTree {
     // Forks anew what is out of balance, and forgets an empty side. Where there is no memory for
     // that the tree stays as it is.
     pub(crate) fn settle(&mut self, alloc: Global)
@@ -140,10 +156,10 @@ impl Tree {
         }
     }
 
-    fn better(&self, alloc: Global) -> Result<Option<Tree>, AllocError>
+    fn better(&self, alloc: Global) -> Result<Option<NumbersTree>, AllocError>
         ensures { IfOk result (λ found. IfSome found (λ made. made.items ≡ self.now.items)) }
     {
-        let Shape::Fork(left, right) = &self.node.shape else {
+        let NumbersShape::Fork(left, right) = &self.node.shape else {
             return Ok(None);
         };
         if left.is_empty() {

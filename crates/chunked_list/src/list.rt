@@ -3,9 +3,9 @@ ghost use Rattle.std.specs.Prelude.{◌≡◌, ◌<◌, ◌≤◌, [], length, s
 ghost use Rattle.std.specs.List.{insert, remove};
 ghost use Rattle.chunked_list.specs.Places.{below, Rises};
 
-use crate::changes::Change;
+use crate::changes::NumberChange;
 use crate::forks::{single, tree_of};
-use crate::tree::Tree;
+use crate::tree::NumbersTree;
 use std::alloc::{AllocError, Global};
 use std::marker::Model;
 
@@ -15,19 +15,19 @@ use std::marker::Model;
 /// takes one.
 #[derive(Debug, Drop)]
 pub struct ChunkedList {
-    pub(crate) root: Option<Tree>,
+    pub(crate) root: Option<NumbersTree>,
 }
 
 impl Model for ChunkedList {
     ghost use Rattle.std.specs.Prelude.{ℕ, List};
     ghost use Rattle.std.specs.Coded.{coded_list, coded_ℕ};
-    ghost use Rattle.chunked_list.specs.Nodes.{listed};
+    ghost use Rattle.chunked_list.specs.Nodes.{numbers_listed};
 
     ghost Value = { List ℕ };
 
     ghost coded = { coded_list coded_ℕ };
 
-    ghost view = { λ a. listed a.root };
+    ghost view = { λ a. numbers_listed a.root };
 }
 
 impl ChunkedList {
@@ -87,7 +87,7 @@ impl ChunkedList {
         ensures stays { OnErr result (self.new ≡ self.old) }
     {
         match &mut self.root {
-            Some(tree) => tree.change(alloc, place, Change::Insert(number)),
+            Some(tree) => tree.change(alloc, place, NumberChange::Insert(number)),
             None => {
                 self.root = Some(single(alloc, number)?);
                 Ok(())
@@ -104,7 +104,7 @@ impl ChunkedList {
     {
         match &mut self.root {
             Some(tree) => {
-                tree.change(alloc, place, Change::Remove)?;
+                tree.change(alloc, place, NumberChange::Remove)?;
                 if tree.is_empty() {
                     self.root = None;
                 }

@@ -3,9 +3,9 @@ ghost use Rattle.std.specs.Prelude.{◌≡◌, ◌==◌, ◌<◌, length, slice_
 ghost use Rattle.chunked_list.specs.Nodes.{numbers_last};
 ghost use Rattle.chunked_list.specs.Places.{below, Rises};
 
-use crate::tree::{Shape, Tree};
+use crate::tree::{NumbersShape, NumbersTree};
 
-impl Tree {
+impl NumbersTree {
     // How many numbers there are.
     pub(crate) fn len(&self) -> usize
         ensures { result ≡ length self.now.items }
@@ -38,8 +38,8 @@ impl Tree {
         ensures { result ≡ slice_index_or self.now.items place 0 }
     {
         match &self.node.shape {
-            Shape::Leaf(items) => items[place],
-            Shape::Fork(left, right) => {
+            NumbersShape::Leaf(items) => items[place],
+            NumbersShape::Fork(left, right) => {
                 let before = left.len();
                 if place < before {
                     left.at(place)
@@ -60,8 +60,8 @@ impl Tree {
             return all;
         }
         match &self.node.shape {
-            Shape::Leaf(items) => count_among(items, number),
-            Shape::Fork(left, right) => {
+            NumbersShape::Leaf(items) => count_among(items, number),
+            NumbersShape::Fork(left, right) => {
                 if left.last() < number {
                     left.len() + right.count_below(number)
                 } else {

@@ -19,7 +19,7 @@ use Rattle.std.specs.contracts.sync.ArcStr as text
 use Rattle.std.specs.contracts.option.Option as option
 use Rattle.std.specs.contracts.string.String as string
 use Rattle.value_data.proofs.value.Entries.TheLaws.TheKnot as knot
-use Rattle.chunked_list.proofs.tree.Tree.TheLaws.TheKnot as lists
+use Rattle.chunked_list.proofs.tree.NumbersTree.TheLaws.TheKnot as lists
 use Rattle.chunked_list.specs.contracts.list.ChunkedList as chunked
 use Rattle.chunked_list.specs.contracts.places.RankedPlaces as ranked
 use Rattle.chunked_list.specs.contracts.places.RankedPlaces.TheInside as ranked_inside

@@ -37,7 +37,7 @@ struct Count {
 
 /// Who is to go on behind messages that came.
 #[derive(Clone, Copy)]
-pub(crate) enum Call {
+pub(crate) enum Woken {
     /// Nobody waits for them.
     Nobody,
     /// Who read them.
@@ -48,7 +48,7 @@ pub(crate) enum Call {
 
 /// How often actions had ended and messages had come.
 #[derive(Clone, Copy)]
-pub(crate) struct Seen {
+pub(crate) struct SeenCounts {
     turns: u64,
     requests: u64,
 }
@@ -111,7 +111,7 @@ impl Signs {
 
     // Whether an await may be met that was not when so much had come: so many actions more ended,
     // or some and no other ends soon; or a message came, which may close its session.
-    fn may_meet(&self, seen: Seen, least: u64) -> bool {
+    fn may_meet(&self, seen: SeenCounts, least: u64) -> bool {
         let ended = self.turns.came.wrapping_sub(seen.turns);
         let ends_none_soon = self.are_agents_at_rest || self.is_action_long;
         let are_enough = least <= ended || (0 < ended && ends_none_soon);
@@ -219,26 +219,26 @@ impl Desk {
     /// So many messages came. Each may be a request, or close a session that awaits. Answers who is
     /// to go on: who read them begins what a single small one asks for, where another thread is
     /// free to read.
-    pub(crate) fn note_messages<R: Wait>(&self, rt: &R, count: usize, is_small: bool) -> Call {
+    pub(crate) fn note_messages<R: Wait>(&self, rt: &R, count: usize, is_small: bool) -> Woken {
         if count == 0 {
-            return Call::Nobody;
+            return Woken::Nobody;
         }
         let mut signs = self.signs.lock(rt);
         let is_waited_for = signs.note(Event::Request);
         let is_turn_awaited = 0 < signs.turns.waiting;
         let is_one = count == 1 && is_small;
         if is_one && is_waited_for && !is_turn_awaited && signs.forms < MOST_FORMS {
-            Call::Reader
+            Woken::Reader
         } else if is_waited_for || is_turn_awaited {
-            Call::Others
+            Woken::Others
         } else {
-            Call::Nobody
+            Woken::Nobody
         }
     }
 
     /// Wakes those who are to go on.
-    pub(crate) fn wake(&self, call: Call) {
-        if matches!(call, Call::Others) {
+    pub(crate) fn wake(&self, call: Woken) {
+        if matches!(call, Woken::Others) {
             self.requested.notify_all();
             self.turned.notify_all();
         }
@@ -300,9 +300,9 @@ impl Desk {
     }
 
     /// How often actions have ended and messages have come until now.
-    pub(crate) fn turns_seen<R: Wait>(&self, rt: &R) -> Seen {
+    pub(crate) fn turns_seen<R: Wait>(&self, rt: &R) -> SeenCounts {
         let signs = self.signs.lock(rt);
-        Seen {
+        SeenCounts {
             turns: signs.turns.came,
             requests: signs.requests.came,
         }
@@ -321,7 +321,7 @@ impl Desk {
 
     /// Waits until an await may be met: until so many actions more ended, or some and no other ends
     /// soon, or a message came.
-    pub(crate) fn wait_for_turns<R: Wait>(&self, rt: &R, seen: Seen, least: u64) {
+    pub(crate) fn wait_for_turns<R: Wait>(&self, rt: &R, seen: SeenCounts, least: u64) {
         let mut signs = self.signs.lock(rt);
         signs.turns.waiting = signs.turns.waiting.saturating_add(1);
         let mut signs = self.turned.wait_while(rt, signs, |signs| {

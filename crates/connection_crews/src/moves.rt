@@ -1,7 +1,7 @@
 // The steps that a crew makes through the book, each under one hold of its lock.
 ghost use Rattle.std.specs.Prelude.{◌≡◌};
 
-use crate::desk::{Call, Desk, Duty, Event, Seen};
+use crate::desk::{Desk, Duty, Event, SeenCounts, Woken};
 use crate::gate::Gate;
 use bytes::Bytes;
 use journal_book::{Beside, Seat};
@@ -47,13 +47,13 @@ pub(crate) struct Connection<'a, L: Ledger, N: Naming, G> {
 
 /// What came of a piece of the stream.
 #[derive(Drop)]
-pub(crate) enum Heard<N: Naming> {
+pub(crate) enum PieceHeard<N: Naming> {
     // whether the stream goes on, replies to write, and what who read the piece is to do, if it is
     // one that may be done at once
     Taken {
         goes_on: bool,
         replies: Vec<Vec<u8>>,
-        found: Option<Found<N>>,
+        found: Option<NextWork<N>>,
     },
     // too many replies wait; the piece, and how often replies were taken out
     Held(Bytes, u64),
@@ -62,7 +62,7 @@ pub(crate) enum Heard<N: Naming> {
 
 /// What a worker found to do.
 #[derive(Drop)]
-pub(crate) enum Found<N: Naming> {
+pub(crate) enum NextWork<N: Naming> {
     Form(Begun<N>),
     // the text of an actor's request, which is to be read first
     Text(Actor, String),
@@ -78,10 +78,10 @@ pub(crate) enum Found<N: Naming> {
 
 /// What an evaluation was told.
 #[derive(Drop)]
-pub(crate) enum Told<N: Naming> {
+pub(crate) enum EvaluationTold<N: Naming> {
     Answered(Answered<N>),
     // an await that is not met when so much had come
-    Waiting(Question<N>, Seen),
+    Waiting(Question<N>, SeenCounts),
     Interrupted(Vec<Vec<u8>>),
     Refused,
 }
@@ -104,7 +104,7 @@ impl<'a, L: Ledger, N: Naming, G: Gate> Connection<'a, L, N, G> {
     }
 
     /// The tenant hears a piece. What a single small message asks for is begun at once.
-    pub(crate) fn hear<R: Wait>(&self, rt: &R, seat: &mut Seat<L>, piece: Bytes) -> Heard<N>
+    pub(crate) fn hear<R: Wait>(&self, rt: &R, seat: &mut Seat<L>, piece: Bytes) -> PieceHeard<N>
         ensures { seat.new.tenant ≡ seat.old.tenant }
     {
         let tenant = seat.tenant();
@@ -119,12 +119,18 @@ impl<'a, L: Ledger, N: Naming, G: Gate> Connection<'a, L, N, G> {
                 let replies = self.replies(rt, &mut *book, seat);
                 let call = self.desk.note_messages(rt, messages, is_small && goes_on);
                 let found = match call {
-                    Call::Reader => Some(self.first_found(rt, &mut *book, seat, &mut beside, None)),
-                    Call::Others | Call::Nobody => None,
+                    Woken::Reader => Some(self.first_found(
+                        rt,
+                        &mut *book,
+                        seat,
+                        &mut beside,
+                        None,
+                    )),
+                    Woken::Others | Woken::Nobody => None,
                 };
                 drop(book);
                 self.desk.wake(call);
-                Heard::Taken {
+                PieceHeard::Taken {
                     goes_on,
                     replies,
                     found,
@@ -135,14 +141,14 @@ impl<'a, L: Ledger, N: Naming, G: Gate> Connection<'a, L, N, G> {
                     why: Refusal::Held,
                     step: Step::Hear(_, piece),
                 },
-            ) => { Heard::Held(piece, self.desk.seen(rt, Event::Room)) }
-            Err(_) => Heard::Refused,
+            ) => { PieceHeard::Held(piece, self.desk.seen(rt, Event::Room)) }
+            Err(_) => PieceHeard::Refused,
         }
     }
 
     /// Begins what the first actor that is ready has to do, unless as many forms are evaluated as
     /// may be at a time: then who ends one begins the next.
-    pub(crate) fn begin<R: Wait>(&self, rt: &R, seat: &mut Seat<L>) -> Found<N>
+    pub(crate) fn begin<R: Wait>(&self, rt: &R, seat: &mut Seat<L>) -> NextWork<N>
         ensures { seat.new.tenant ≡ seat.old.tenant }
     {
         let mut beside = Beside::nothing();
@@ -157,7 +163,7 @@ impl<'a, L: Ledger, N: Naming, G: Gate> Connection<'a, L, N, G> {
         seat: &mut Seat<L>,
         read: ReadText,
         whose: (Actor, usize),
-    ) -> Found<N>
+    ) -> NextWork<N>
         ensures { seat.new.tenant ≡ seat.old.tenant }
     {
         let mut beside = Beside::nothing();
@@ -174,7 +180,7 @@ impl<'a, L: Ledger, N: Naming, G: Gate> Connection<'a, L, N, G> {
         seat: &mut Seat<L>,
         beside: &mut Beside,
         whose: Option<(Actor, usize)>,
-    ) -> Found<N>
+    ) -> NextWork<N>
         ensures { seat.new.tenant ≡ seat.old.tenant }
     {
         let tenant = seat.tenant();
@@ -187,28 +193,28 @@ impl<'a, L: Ledger, N: Naming, G: Gate> Connection<'a, L, N, G> {
         if let Some(text) = book.book().next_text(tenant, actor) {
             if text.len() > SHORT_TEXT && !is_same(whose, actor, text.len()) {
                 return match String::from_str(self.alloc, text) {
-                    Ok(text) => Found::Text(actor, text),
-                    Err(_) => Found::Refused,
+                    Ok(text) => NextWork::Text(actor, text),
+                    Err(_) => NextWork::Refused,
                 };
             }
         }
         match self.start(rt, book, seat, actor, beside) {
             Ok(found) => found,
-            Err(_) => Found::Refused,
+            Err(_) => NextWork::Refused,
         }
     }
 
     // Nothing is to be begun by this thread now; and never more where the peer sends no more, since
     // who evaluates looks again.
-    fn nothing<R: Wait>(&self, rt: &R) -> Found<N> {
+    fn nothing<R: Wait>(&self, rt: &R) -> NextWork<N> {
         match self.desk.is_reading(rt) {
-            true => Found::Nothing(self.desk.seen(rt, Event::Request)),
-            false => Found::Done,
+            true => NextWork::Nothing(self.desk.seen(rt, Event::Request)),
+            false => NextWork::Done,
         }
     }
 
     /// Begins the next action, if one waits.
-    pub(crate) fn begin_action<R: Wait>(&self, rt: &R, seat: &mut Seat<L>) -> Found<N>
+    pub(crate) fn begin_action<R: Wait>(&self, rt: &R, seat: &mut Seat<L>) -> NextWork<N>
         ensures { seat.new.tenant ≡ seat.old.tenant }
     {
         let tenant = seat.tenant();
@@ -219,12 +225,12 @@ impl<'a, L: Ledger, N: Naming, G: Gate> Connection<'a, L, N, G> {
             Err(Refusal::Idle) => {
                 let seen = self.desk.rest_agents(rt);
                 if book.book().ready(tenant).is_some() || self.desk.may_send(rt) {
-                    Found::Nothing(seen)
+                    NextWork::Nothing(seen)
                 } else {
-                    Found::Done
+                    NextWork::Done
                 }
             }
-            Err(_) => Found::Refused,
+            Err(_) => NextWork::Refused,
         }
     }
 
@@ -236,27 +242,32 @@ impl<'a, L: Ledger, N: Naming, G: Gate> Connection<'a, L, N, G> {
         seat: &mut Seat<L>,
         actor: Actor,
         beside: &mut Beside,
-    ) -> Result<Found<N>, Refusal>
+    ) -> Result<NextWork<N>, Refusal>
         ensures { seat.new.tenant ≡ seat.old.tenant }
     {
         match book.start(seat, actor, beside) {
             Ok(Some(begun)) => {
                 self.desk.begin_evaluation(rt, duty_of(actor));
-                Ok(Found::Form(begun))
+                Ok(NextWork::Form(begun))
             }
-            Ok(None) => Ok(Found::Answered(self.replies(rt, book, seat))),
-            Err(Refusal::Held) => Ok(Found::Held(self.desk.seen(rt, Event::Room))),
+            Ok(None) => Ok(NextWork::Answered(self.replies(rt, book, seat))),
+            Err(Refusal::Held) => Ok(NextWork::Held(self.desk.seen(rt, Event::Room))),
             Err(why) => Err(why),
         }
     }
 
     /// A form asks.
-    pub(crate) fn ask<R: Wait>(&self, rt: &R, seat: &mut Seat<L>, question: Question<N>) -> Told<N>
+    pub(crate) fn ask<R: Wait>(
+        &self,
+        rt: &R,
+        seat: &mut Seat<L>,
+        question: Question<N>,
+    ) -> EvaluationTold<N>
         ensures { seat.new.tenant ≡ seat.old.tenant }
     {
         let mut beside = Beside::nothing();
         let told = self.ask_under_lock(rt, seat, question, &mut beside);
-        if matches!(told, Told::Interrupted(_)) {
+        if matches!(told, EvaluationTold::Interrupted(_)) {
             beside.free(self.alloc);
         }
         told
@@ -268,7 +279,7 @@ impl<'a, L: Ledger, N: Naming, G: Gate> Connection<'a, L, N, G> {
         seat: &mut Seat<L>,
         question: Question<N>,
         beside: &mut Beside,
-    ) -> Told<N>
+    ) -> EvaluationTold<N>
         ensures { seat.new.tenant ≡ seat.old.tenant }
     {
         let wakes = may_wake_agents(question.ask());
@@ -278,16 +289,16 @@ impl<'a, L: Ledger, N: Naming, G: Gate> Connection<'a, L, N, G> {
                 if wakes {
                     self.desk.wake_agents(rt);
                 }
-                Told::Answered(answered)
+                EvaluationTold::Answered(answered)
             }
-            Ok(None) => Told::Interrupted(self.replies(rt, &mut *book, seat)),
+            Ok(None) => EvaluationTold::Interrupted(self.replies(rt, &mut *book, seat)),
             Err(
                 Unasked {
                     why: Refusal::Waiting,
                     question,
                 },
-            ) => Told::Waiting(question, self.desk.turns_seen(rt)),
-            Err(_) => Told::Refused,
+            ) => EvaluationTold::Waiting(question, self.desk.turns_seen(rt)),
+            Err(_) => EvaluationTold::Refused,
         }
     }
 

@@ -1,7 +1,7 @@
 // What the peer sends is read and heard.
 use crate::desk::Event;
 use crate::gate::Gate;
-use crate::moves::{Connection, Found, Heard};
+use crate::moves::{Connection, NextWork, PieceHeard};
 use bytes::Bytes;
 use journal_book::Seat;
 use knowing_book::Naming;
@@ -26,11 +26,11 @@ const READ_AWAY: usize = 16_384;
 
 /// What came of a read.
 #[derive(Drop)]
-pub(crate) enum Came<N: Naming> {
+pub(crate) enum ReadOutcome<N: Naming> {
     /// Messages, if any, which are left to others.
     Nothing,
     /// A message, and what who read it is to do.
-    Message(Found<N>),
+    Message(NextWork<N>),
     /// Nothing more is to be read.
     End,
 }
@@ -47,15 +47,15 @@ pub(crate) fn read_piece<L: Ledger, N: Naming, R: Wait, G: Gate>(
     connection: &Connection<'_, L, N, G>,
     seat: &mut Seat<L>,
     buffer: &mut Piece,
-) -> Came<N> {
+) -> ReadOutcome<N> {
     match (&mut &*connection.stream).read(buffer) {
-        Ok(0) => Came::End,
+        Ok(0) => ReadOutcome::End,
         Ok(count) => match Bytes::copy_from_slice(connection.alloc, &buffer[..count]) {
             Ok(piece) => hear(rt, connection, seat, piece),
             Err(_) => cut(rt, connection),
         },
         Err(error) => match error.kind() {
-            io::ErrorKind::Interrupted => Came::Nothing,
+            io::ErrorKind::Interrupted => ReadOutcome::Nothing,
             _ => cut(rt, connection),
         },
     }
@@ -64,9 +64,9 @@ pub(crate) fn read_piece<L: Ledger, N: Naming, R: Wait, G: Gate>(
 fn cut<L: Ledger, N: Naming, R: Wait, G: Gate>(
     rt: &R,
     connection: &Connection<'_, L, N, G>,
-) -> Came<N> {
+) -> ReadOutcome<N> {
     connection.cut(rt);
-    Came::End
+    ReadOutcome::End
 }
 
 /// Reads on for a while from a peer whose stream has a fault, and looks at nothing: a socket that
@@ -94,10 +94,10 @@ fn hear<L: Ledger, N: Naming, R: Wait, G: Gate>(
     connection: &Connection<'_, L, N, G>,
     seat: &mut Seat<L>,
     mut piece: Bytes,
-) -> Came<N> {
+) -> ReadOutcome<N> {
     for _ in rt.forever() {
         match connection.hear(rt, seat, piece) {
-            Heard::Taken {
+            PieceHeard::Taken {
                 goes_on,
                 replies,
                 found,
@@ -108,23 +108,23 @@ fn hear<L: Ledger, N: Naming, R: Wait, G: Gate>(
                 }
                 return came_with(goes_on, found);
             }
-            Heard::Held(back, seen) => {
+            PieceHeard::Held(back, seen) => {
                 connection.desk.wait(rt, Event::Room, seen);
                 if connection.desk.is_over(rt) {
-                    return Came::End;
+                    return ReadOutcome::End;
                 }
                 piece = back;
             }
-            Heard::Refused => return cut(rt, connection),
+            PieceHeard::Refused => return cut(rt, connection),
         }
     }
     unreachable!()
 }
 
-fn came_with<N: Naming>(goes_on: bool, found: Option<Found<N>>) -> Came<N> {
+fn came_with<N: Naming>(goes_on: bool, found: Option<NextWork<N>>) -> ReadOutcome<N> {
     match found {
-        Some(found) => Came::Message(found),
-        None if goes_on => Came::Nothing,
-        None => Came::End,
+        Some(found) => ReadOutcome::Message(found),
+        None if goes_on => ReadOutcome::Nothing,
+        None => ReadOutcome::End,
     }
 }

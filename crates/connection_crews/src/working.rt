@@ -1,8 +1,8 @@
 // The threads of a crew that read and evaluate: each ask and each end is handed in.
 use crate::desk::{Duty, Event};
 use crate::gate::Gate;
-use crate::moves::{Connection, Ended, Found, Told};
-use crate::reading::{Came, EMPTY_PIECE, Piece, read_piece};
+use crate::moves::{Connection, Ended, EvaluationTold, NextWork};
+use crate::reading::{EMPTY_PIECE, Piece, ReadOutcome, read_piece};
 use journal_book::Seat;
 use knowing_book::{Answered, Begun, Finish, Naming, Question, Stage};
 use repl_asks::Ask;
@@ -36,7 +36,7 @@ pub(crate) struct Worker<'c, 'a, L: Ledger, N: Naming, R, G> {
 
 // What a worker does behind an evaluation.
 #[derive(Drop)]
-enum Next {
+enum NextMove {
     Begin,
     // Nobody had anything to begin when so many requests had come.
     Wait(u64),
@@ -104,12 +104,12 @@ impl<'c, 'a, L: Ledger, N: Naming, R: Wait, G: Gate> Worker<'c, 'a, L, N, R, G> 
     // Reads a piece, and does at once what a small message asks for.
     fn read(&mut self, buffer: &mut Piece) {
         match read_piece(self.rt, self.connection, &mut self.seat, buffer) {
-            Came::Nothing => {}
-            Came::Message(found) => {
+            ReadOutcome::Nothing => {}
+            ReadOutcome::Message(found) => {
                 self.moves_left = MOST_MOVES;
                 let _more_may_come = self.go(found);
             }
-            Came::End => {
+            ReadOutcome::End => {
                 self.reads = false;
                 self.connection.desk.end_reading(self.rt);
             }
@@ -152,16 +152,16 @@ impl<'c, 'a, L: Ledger, N: Naming, R: Wait, G: Gate> Worker<'c, 'a, L, N, R, G> 
     }
 
     // Does what was found. Tells whether more may come.
-    fn go(&mut self, found: Found<N>) -> bool {
+    fn go(&mut self, found: NextWork<N>) -> bool {
         match self.read_ahead(found) {
             // another text waits by now
-            Found::Text(_actor, _text) => {}
-            Found::Form(begun) => self.run(begun),
-            Found::Answered(replies) => self.connection.write(self.rt, replies),
-            Found::Nothing(seen) => self.rest(seen),
-            Found::Done => return false,
-            Found::Held(seen) => self.wait_for_room(seen),
-            Found::Refused => self.connection.cut(self.rt),
+            NextWork::Text(_actor, _text) => {}
+            NextWork::Form(begun) => self.run(begun),
+            NextWork::Answered(replies) => self.connection.write(self.rt, replies),
+            NextWork::Nothing(seen) => self.rest(seen),
+            NextWork::Done => return false,
+            NextWork::Held(seen) => self.wait_for_room(seen),
+            NextWork::Refused => self.connection.cut(self.rt),
         }
         true
     }
@@ -169,26 +169,26 @@ impl<'c, 'a, L: Ledger, N: Naming, R: Wait, G: Gate> Worker<'c, 'a, L, N, R, G> 
     // Evaluates a form to its end, and waits where nobody has anything to begin.
     fn run(&mut self, begun: Begun<N>) {
         let next = self.evaluate(begun);
-        if matches!(next, Next::Cut) {
+        if matches!(next, NextMove::Cut) {
             self.connection.cut(self.rt);
         }
         self.connection.desk.end_evaluation(self.rt, self.duty);
-        if let Next::Wait(seen) = next {
+        if let NextMove::Wait(seen) = next {
             self.rest(seen);
         }
     }
 
     // What is found once a text is read, where one was to be read first. Nobody waits meanwhile.
-    fn read_ahead(&mut self, found: Found<N>) -> Found<N> {
+    fn read_ahead(&mut self, found: NextWork<N>) -> NextWork<N> {
         match found {
-            Found::Text(actor, text) => {
+            NextWork::Text(actor, text) => {
                 self.stop_reading();
                 let whose = (actor, text.len());
                 match ReadText::new(self.connection.alloc, text) {
                     Ok(read) => self
                         .connection
                         .begin_read(self.rt, &mut self.seat, read, whose),
-                    Err(_) => Found::Refused,
+                    Err(_) => NextWork::Refused,
                 }
             }
             found => found,
@@ -213,13 +213,13 @@ impl<'c, 'a, L: Ledger, N: Naming, R: Wait, G: Gate> Worker<'c, 'a, L, N, R, G> 
     }
 
     // Evaluates a form to its end. It is cut off where memory is refused.
-    fn evaluate(&mut self, begun: Begun<N>) -> Next {
+    fn evaluate(&mut self, begun: Begun<N>) -> NextMove {
         let mut reached = begun.evaluate(self.connection.alloc);
         for _ in self.rt.forever() {
             let answered = match reached {
                 Ok(Stage::Asks(question)) => self.ask(question),
                 Ok(Stage::Ends(finish)) => Err(self.end(finish)),
-                Err(_) => Err(Next::Cut),
+                Err(_) => Err(NextMove::Cut),
             };
             match answered {
                 Ok(answered) => reached = answered.resume(self.connection.alloc),
@@ -230,10 +230,10 @@ impl<'c, 'a, L: Ledger, N: Naming, R: Wait, G: Gate> Worker<'c, 'a, L, N, R, G> 
     }
 
     // Passes the gate, and has the ask of a form answered, an await once it is met.
-    fn ask(&mut self, mut question: Question<N>) -> Result<Answered<N>, Next> {
+    fn ask(&mut self, mut question: Question<N>) -> Result<Answered<N>, NextMove> {
         self.count_move();
         if self.connection.desk.is_over(self.rt) {
-            return Err(Next::Cut);
+            return Err(NextMove::Cut);
         }
         if self.connection.gate.may_hold() {
             self.stop_reading();
@@ -245,30 +245,30 @@ impl<'c, 'a, L: Ledger, N: Naming, R: Wait, G: Gate> Worker<'c, 'a, L, N, R, G> 
         let turns = turns_for(question.ask());
         for _ in self.rt.forever() {
             match self.connection.ask(self.rt, &mut self.seat, question) {
-                Told::Answered(answered) => return Ok(answered),
-                Told::Waiting(back, seen) => {
+                EvaluationTold::Answered(answered) => return Ok(answered),
+                EvaluationTold::Waiting(back, seen) => {
                     self.stop_reading();
                     self.connection.desk.wait_for_turns(self.rt, seen, turns);
                     if self.connection.desk.is_over(self.rt) {
-                        return Err(Next::Cut);
+                        return Err(NextMove::Cut);
                     }
                     question = back;
                 }
-                Told::Interrupted(replies) => {
+                EvaluationTold::Interrupted(replies) => {
                     self.connection.write(self.rt, replies);
-                    return Err(Next::Begin);
+                    return Err(NextMove::Begin);
                 }
-                Told::Refused => return Err(Next::Cut),
+                EvaluationTold::Refused => return Err(NextMove::Cut),
             }
         }
         unreachable!()
     }
 
     // Makes the replies, and hands the ending in, as soon as there is room for its replies.
-    fn end(&mut self, mut finish: Finish<N>) -> Next {
+    fn end(&mut self, mut finish: Finish<N>) -> NextMove {
         for _ in self.rt.forever() {
             let Ok(spelled) = finish.spell(self.connection.alloc) else {
-                return Next::Cut;
+                return NextMove::Cut;
             };
             match self.connection.end_form(self.rt, &mut self.seat, spelled) {
                 Ended::Taken(replies, seen) => {
@@ -277,18 +277,18 @@ impl<'c, 'a, L: Ledger, N: Naming, R: Wait, G: Gate> Worker<'c, 'a, L, N, R, G> 
                     }
                     self.connection.write(self.rt, replies);
                     return match seen {
-                        Some(seen) => Next::Wait(seen),
-                        None => Next::Begin,
+                        Some(seen) => NextMove::Wait(seen),
+                        None => NextMove::Begin,
                     };
                 }
                 Ended::Held(back, seen) => {
                     self.wait_for_room(seen);
                     if self.connection.desk.is_over(self.rt) {
-                        return Next::Cut;
+                        return NextMove::Cut;
                     }
                     finish = back;
                 }
-                Ended::Refused => return Next::Cut,
+                Ended::Refused => return NextMove::Cut,
             }
         }
         unreachable!()

@@ -8,7 +8,7 @@ use Rattle.atomic_table.proofs.Lists.{at_set, at_snoc}
 use Rattle.crossbeam_channel.specs.Fifo.{Pushes, Pops, Forks}
 use Rattle.connection_queue.specs.declared.feeding.Accepted.{Accepted}
 use Rattle.connection_queue.specs.declared.feeding.Hand.{Hand}
-use Rattle.connection_queue.specs.Numbers.{hand, IsRising, TicketAgrees, Rises}
+use Rattle.connection_queue.specs.Numbers.{hand, IsRising, TicketAgrees, QueueRises}
 
 abbrev All : (ℕ → Hand → Type 0) → List Hand → Type 0
 All F views = (port : ℕ) (v : Hand) → get_elem? views port ≡ some v → F port v
@@ -35,11 +35,11 @@ alone zero u e =
     ((λ _. (refl, refl)), λ _. omega arith)) (at_snoc [] (hand true 0) u zero e)
 alone (suc j) u e = absurd (some-ne-none u (sym e))
 
-pub begins : Rises [] (hand true 0 ∷ [])
+pub begins : QueueRises [] (hand true 0 ∷ [])
 begins = (0, 0, 0, omega arith, alone)
 
 pub sends : (n port : ℕ) (v : Hand) (x : Accepted) → v.sends ≡ true → x.number ≡ v.number
-    → Pushes Rises n port v x (λ w. w ≡ hand v.sends (v.number + 1))
+    → Pushes QueueRises n port v x (λ w. w ≡ hand v.sends (v.number + 1))
 sends n port v x may is items views _ h at =
     let w : Hand = hand v.sends (v.number + 1) in
     let mine = (h.4 port v at).0 may in
@@ -51,7 +51,7 @@ sends n port v x may is items views _ h at =
     (w, (h.0, h.1, h.2 + 1, rising, all), refl)
 
 pub gets : (port : ℕ) (v : Hand) → v.sends ≡ false
-    → Pops Rises port v (λ x w. (v.number ≤ x.number) × (w ≡ hand false (x.number + 1)))
+    → Pops QueueRises port v (λ x w. (v.number ≤ x.number) × (w ≡ hand false (x.number + 1)))
 gets port v may x items views h at =
     let w : Hand = hand false (x.number + 1) in
     let mine = (h.4 port v at).1 may in
@@ -62,7 +62,7 @@ gets port v may x items views h at =
     (λ j u other e. ((h.4 j u e).0, λ q. let low = (h.4 j u e).1 q in omega arith)) in
     (w, (h.0, x.number + 1, h.2, h.3.1, all), (omega arith, refl))
 
-pub forks : (port : ℕ) (v : Hand) → v.sends ≡ true → Forks Rises port v v (hand false 0)
+pub forks : (port : ℕ) (v : Hand) → v.sends ≡ true → Forks QueueRises port v v (hand false 0)
 forks port v may items views h at =
     let F : ℕ → Hand → Type 0 = TicketAgrees h.0 h.1 h.2 in
     let old : All F (set views port v) =

@@ -19,6 +19,6 @@ TicketAgrees writer low next port v =
     (v.sends ≡ true → (port ≡ writer) × (v.number ≡ next)) × (v.sends ≡ false → v.number ≤ low)
 
 -- the connections that wait rise in their numbers, from above all that were taken to below the next
-abbrev pub Rises : List Accepted → List Hand → Type 0
-Rises items views = (writer : ℕ) × (low : ℕ) × (next : ℕ) × IsRising low items next
+abbrev pub QueueRises : List Accepted → List Hand → Type 0
+QueueRises items views = (writer : ℕ) × (low : ℕ) × (next : ℕ) × IsRising low items next
     × ((port : ℕ) (v : Hand) → get_elem? views port ≡ some v → TicketAgrees writer low next port v)

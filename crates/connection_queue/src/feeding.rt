@@ -29,9 +29,9 @@ pub struct Rising;
 
 impl Protocol<Accepted, Hand> for Rising {
     ghost use Rattle.std.specs.Prelude.{true};
-    ghost use Rattle.connection_queue.specs.Numbers.{hand, Rises};
+    ghost use Rattle.connection_queue.specs.Numbers.{hand, QueueRises};
 
-    ghost holds = { Rises };
+    ghost holds = { QueueRises };
 
     ghost first = { hand true 0 };
 }
@@ -47,16 +47,16 @@ impl Split<Hand> for Takes {
     ghost right = { λ v. hand false 0 };
 }
 
-struct Sent;
+struct NumberSent;
 
-impl Outcome<Accepted, Hand> for Sent {
+impl Outcome<Accepted, Hand> for NumberSent {
     ghost use Rattle.std.specs.Prelude.{◌≡◌, ◌+◌};
     ghost use Rattle.connection_queue.specs.Numbers.{hand};
 
     ghost then = { λ v x w. w ≡ hand v.sends (v.number + 1) };
 }
 
-impl Lesson<Accepted, Hand> for Sent {
+impl Lesson<Accepted, Hand> for NumberSent {
     ghost fact = { λ v items. Unit {0} };
 }
 
@@ -100,7 +100,7 @@ pub fn send<R: Wait>(rt: &R, feed: &Feed, ticket: &mut Ticket, accepted: Accepte
     ensures sent { result ≡ true → view ticket.new ≡ hand true (accepted.number + 1) }
     ensures unsent { result ≡ false → view ticket.new ≡ view ticket.old }
 {
-    feed.send_as::<Sent, R>(rt, ticket, accepted).is_ok()
+    feed.send_as::<NumberSent, R>(rt, ticket, accepted).is_ok()
 }
 
 /// Takes the oldest connection: its number is above all that were taken with this ticket. It waits

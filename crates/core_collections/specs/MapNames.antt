@@ -1,10 +1,10 @@
 -- The functions, each with its name and the numbers of arguments that it takes.
 use Rattle.std.specs.Prelude.{ℕ, List, [], ◌∷◌, Bool, Option, codes}
-use Rattle.repl_values.specs.FunctionRows.{Row, takes, first_named}
+use Rattle.repl_values.specs.FunctionRows.{FunctionRowData, takes, first_named}
 use Rattle.repl_values.specs.declared.function_row.Arity.{Arity}
 use Rattle.core_collections.specs.declared.map_function.MapFunction.{MapFunction}
 
-abbrev pub map_row : MapFunction → Row
+abbrev pub map_row : MapFunction → FunctionRowData
 map_row MapFunction.HashMap = record { name = codes "hash-map"; arity = Arity.AnyNumber }
 map_row MapFunction.Get = record { name = codes "get"; arity = Arity.FromTo 2 3 }
 map_row MapFunction.Contains = record { name = codes "contains?"; arity = Arity.Exactly 2 }

@@ -1,10 +1,10 @@
 -- The functions, each with its name and the numbers of arguments that it takes.
 use Rattle.std.specs.Prelude.{ℕ, List, [], ◌∷◌, Bool, Option, codes}
-use Rattle.repl_values.specs.FunctionRows.{Row, takes, first_named}
+use Rattle.repl_values.specs.FunctionRows.{FunctionRowData, takes, first_named}
 use Rattle.repl_values.specs.declared.function_row.Arity.{Arity}
 use Rattle.core_collections.specs.declared.sequence_function.SequenceFunction.{SequenceFunction}
 
-abbrev pub sequence_row : SequenceFunction → Row
+abbrev pub sequence_row : SequenceFunction → FunctionRowData
 sequence_row SequenceFunction.List = record { name = codes "list"; arity = Arity.AnyNumber }
 sequence_row SequenceFunction.Vector = record { name = codes "vector"; arity = Arity.AnyNumber }
 sequence_row SequenceFunction.First = record { name = codes "first"; arity = Arity.Exactly 1 }

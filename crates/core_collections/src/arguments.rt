@@ -13,12 +13,12 @@ use std::alloc::{AllocError, Global};
 
 // Keys and their values by turns, and the last of an odd number.
 #[derive(Drop)]
-pub(crate) struct Turns<'a> {
+pub(crate) struct KeysByTurns<'a> {
     pub(crate) pairs: Vec<(&'a Value, &'a Value)>,
     pub(crate) left_alone: Option<&'a Value>,
 }
 
-pub(crate) fn by_turns<'a>(alloc: Global, args: &'a [Value]) -> Result<Turns<'a>, AllocError>
+pub(crate) fn by_turns<'a>(alloc: Global, args: &'a [Value]) -> Result<KeysByTurns<'a>, AllocError>
     ensures pairs { IfOk result (λ turns. map entry_view turns.pairs.items
         ≡ meant.by_turns (map view args.now)) }
     ensures left { IfOk result (λ turns. option_map (λ v. view v.now) turns.left_alone
@@ -30,7 +30,7 @@ pub(crate) fn by_turns<'a>(alloc: Global, args: &'a [Value]) -> Result<Turns<'a>
         pairs.push((&left[0], &left[1]))?;
         left = &left[2..];
     }
-    Ok(Turns {
+    Ok(KeysByTurns {
         pairs,
         left_alone: left.first(),
     })

@@ -1,6 +1,6 @@
 -- The functions that need no store, group by group: each has its row in the table of its group.
 use Rattle.std.specs.Prelude.{ℕ, List, Bool, Option, Some, None}
-use Rattle.repl_values.specs.FunctionRows.{Row, takes}
+use Rattle.repl_values.specs.FunctionRows.{FunctionRowData, takes}
 use Rattle.core_scalars.specs.IntegerNames.{integer_row, integer_function_named}
 use Rattle.core_scalars.specs.PredicateNames.{predicate_row, predicate_function_named}
 use Rattle.core_scalars.specs.TextNames.{text_row, text_function_named, print_row}
@@ -27,7 +27,7 @@ function_named name =
     or_else (among CoreFunction.Map (map_function_named name)) (
     among CoreFunction.Print (print_function_named name))))))
 
-abbrev pub core_row : CoreFunction → Row
+abbrev pub core_row : CoreFunction → FunctionRowData
 core_row (CoreFunction.Integer f) = integer_row f
 core_row (CoreFunction.Predicate f) = predicate_row f
 core_row (CoreFunction.Text f) = text_row f

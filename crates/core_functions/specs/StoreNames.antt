@@ -1,12 +1,12 @@
 -- The functions that ask the store, each with its name and the numbers of arguments that it takes
 -- (the Clojure reference, Refs and Transactions, Atoms, and Agents).
 use Rattle.std.specs.Prelude.{ℕ, List, [], ◌∷◌, Bool, Option, codes}
-use Rattle.repl_values.specs.FunctionRows.{Row, takes, first_named}
+use Rattle.repl_values.specs.FunctionRows.{FunctionRowData, takes, first_named}
 use Rattle.repl_values.specs.declared.function_row.Arity.{Arity}
 use Rattle.core_functions.specs.declared.store.StoreFunction.{StoreFunction}
 
 -- `ref` takes a value, and behind it one or both bounds of the history, each behind its keyword
-abbrev pub store_row : StoreFunction → Row
+abbrev pub store_row : StoreFunction → FunctionRowData
 store_row StoreFunction.Ref = record { name = codes "ref"; arity = Arity.OddUpTo 5 }
 store_row StoreFunction.Deref = record { name = codes "deref"; arity = Arity.Exactly 1 }
 store_row StoreFunction.RefSet = record { name = codes "ref-set"; arity = Arity.Exactly 2 }

@@ -1,13 +1,13 @@
 -- The functions, each with its name and the numbers of arguments that it takes.
 use Rattle.std.specs.Prelude.{ℕ, List, [], ◌∷◌, ◌++◌, map, Bool, Option, codes}
-use Rattle.repl_values.specs.FunctionRows.{Row, takes, first_named}
+use Rattle.repl_values.specs.FunctionRows.{FunctionRowData, takes, first_named}
 use Rattle.repl_values.specs.declared.function_row.Arity.{Arity}
 use Rattle.core_scalars.specs.declared.integer_function.ArithmeticFunction.{ArithmeticFunction}
 use Rattle.core_scalars.specs.declared.integer_function.ComparisonFunction.{ComparisonFunction}
 use Rattle.core_scalars.specs.declared.integer_function.IntegerTest.{IntegerTest}
 use Rattle.core_scalars.specs.declared.integer_function.IntegerFunction.{IntegerFunction}
 
-abbrev pub arithmetic_row : ArithmeticFunction → Row
+abbrev pub arithmetic_row : ArithmeticFunction → FunctionRowData
 arithmetic_row ArithmeticFunction.Add = record { name = codes "+"; arity = Arity.AnyNumber }
 arithmetic_row ArithmeticFunction.Subtract = record { name = codes "-"; arity = Arity.AtLeast 1 }
 arithmetic_row ArithmeticFunction.Multiply = record { name = codes "*"; arity = Arity.AnyNumber }
@@ -32,7 +32,7 @@ integer_test_name IntegerTest.Negative = codes "neg?"
 integer_test_name IntegerTest.Even = codes "even?"
 integer_test_name IntegerTest.Odd = codes "odd?"
 
-abbrev pub integer_row : IntegerFunction → Row
+abbrev pub integer_row : IntegerFunction → FunctionRowData
 integer_row (IntegerFunction.Arithmetic f) = arithmetic_row f
 integer_row (IntegerFunction.Comparison f) =
     record { name = comparison_name f; arity = Arity.AtLeast 1 }

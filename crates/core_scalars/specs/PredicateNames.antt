@@ -1,6 +1,6 @@
 -- The functions, each with its name and the numbers of arguments that it takes.
 use Rattle.std.specs.Prelude.{ℕ, List, [], ◌∷◌, map, Bool, Option, codes}
-use Rattle.repl_values.specs.FunctionRows.{Row, takes, first_named}
+use Rattle.repl_values.specs.FunctionRows.{FunctionRowData, takes, first_named}
 use Rattle.repl_values.specs.declared.function_row.Arity.{Arity}
 use Rattle.core_scalars.specs.declared.predicate_function.ValueTest.{ValueTest}
 use Rattle.core_scalars.specs.declared.predicate_function.PredicateFunction.{PredicateFunction}
@@ -19,7 +19,7 @@ value_test_name ValueTest.List = codes "list?"
 value_test_name ValueTest.Vector = codes "vector?"
 value_test_name ValueTest.Map = codes "map?"
 
-abbrev pub predicate_row : PredicateFunction → Row
+abbrev pub predicate_row : PredicateFunction → FunctionRowData
 predicate_row PredicateFunction.Equal = record { name = codes "="; arity = Arity.AtLeast 1 }
 predicate_row PredicateFunction.NotEqual = record { name = codes "not="; arity = Arity.AtLeast 1 }
 predicate_row PredicateFunction.Identity =

@@ -1,11 +1,11 @@
 -- The functions, each with its name and the numbers of arguments that it takes.
 use Rattle.std.specs.Prelude.{ℕ, List, [], ◌∷◌, Bool, Option, codes}
-use Rattle.repl_values.specs.FunctionRows.{Row, takes, first_named}
+use Rattle.repl_values.specs.FunctionRows.{FunctionRowData, takes, first_named}
 use Rattle.repl_values.specs.declared.function_row.Arity.{Arity}
 use Rattle.core_scalars.specs.declared.text_function.TextFunction.{TextFunction}
 use Rattle.core_scalars.specs.declared.text_function.PrintFunction.{PrintFunction}
 
-abbrev pub text_row : TextFunction → Row
+abbrev pub text_row : TextFunction → FunctionRowData
 text_row TextFunction.Str = record { name = codes "str"; arity = Arity.AnyNumber }
 text_row TextFunction.PrStr = record { name = codes "pr-str"; arity = Arity.AnyNumber }
 text_row TextFunction.Name = record { name = codes "name"; arity = Arity.Exactly 1 }
@@ -29,7 +29,7 @@ name_of_print_function PrintFunction.Pr = codes "pr"
 name_of_print_function PrintFunction.Prn = codes "prn"
 
 -- what prints takes any number
-abbrev pub print_row : PrintFunction → Row
+abbrev pub print_row : PrintFunction → FunctionRowData
 print_row f = record { name = name_of_print_function f; arity = Arity.AnyNumber }
 
 abbrev pub print_functions : List PrintFunction

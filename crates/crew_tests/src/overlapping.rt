@@ -23,7 +23,7 @@ use std::{io, thread};
 const MOST_ROUNDS: u64 = 10_000;
 
 #[derive(Drop)]
-struct Signs {
+struct OverlapSigns {
     is_released: AtomicBool,
     was_held_too_long: AtomicBool,
 }
@@ -32,7 +32,7 @@ struct Signs {
 #[derive(Drop)]
 struct Holding<R: Clock + Drop> {
     rt: R,
-    signs: Arc<Signs>,
+    signs: Arc<OverlapSigns>,
 }
 
 impl<R: Clock + Drop> Gate for Holding<R> {
@@ -76,7 +76,7 @@ fn ask_in_turn<R: Net<Stream = TcpStream>>(
     rt: &R,
     alloc: Global,
     port: u16,
-    signs: &Signs,
+    signs: &OverlapSigns,
     are_of_one_connection: bool,
 ) -> io::Result<()> {
     let mut one = Client::connect(rt, alloc, port)?;
@@ -119,7 +119,7 @@ fn expect_overlap<
     let port = listener.local_addr()?.port();
     let signs = shared(
         alloc,
-        Signs {
+        OverlapSigns {
             is_released: AtomicBool::new(false),
             was_held_too_long: AtomicBool::new(false),
         },

@@ -17,7 +17,7 @@ use Rattle.special_forms.specs.Locals.{LocalData}
 use Rattle.evaluation_rules.specs.declared.updating.Update.{Update}
 use Rattle.evaluation_rules.specs.Doing.{failed, left, printing, Part, fails}
 use Rattle.evaluation_rules.specs.Places.{PlaceData, Evaluator}
-use Rattle.evaluation_rules.specs.Rows.{last_of}
+use Rattle.evaluation_rules.specs.Rows.{value_of_last}
 use Rattle.evaluation_rules.specs.Refs.{store_call}
 use Rattle.evaluation_rules.specs.SharedText.{outside_shared_text}
 
@@ -70,7 +70,7 @@ abbrev pub body_place : FunctionData → List Datum → PlaceData
 body_place f args = record { locals = bound_to [] f.params args; home = Some f.space }
 
 abbrev pub body_value : Evaluator → FunctionData → List Datum → Part Datum
-body_value walk f args = last_of (walk (body_place f args)) nil f.body
+body_value walk f args = value_of_last (walk (body_place f args)) nil f.body
 
 abbrev pub full_name : FunctionData → List ℕ
 full_name f = f.space ++ codes "/" ++ f.name

@@ -14,7 +14,7 @@ use Rattle.evaluation_rules.specs.Calling.{altered_in, altering}
 use Rattle.evaluation_rules.specs.declared.altering.Alteration.{Alteration}
 use Rattle.evaluation_rules.specs.declared.sending.Dispatch.{Dispatch}
 use Rattle.evaluation_rules.specs.declared.updating.Update.{Update}
-use Rattle.evaluation_rules.specs.Doing.{failed, left, noting, Part, ◌>>=◌, fails}
+use Rattle.evaluation_rules.specs.Doing.{failed, left, noting, Part, ◌|>◌, fails}
 use Rattle.evaluation_rules.specs.Places.{PlaceData, Evaluator}
 use Rattle.evaluation_rules.specs.Rows.{row}
 use Rattle.evaluation_rules.specs.Naming.{function_value}
@@ -29,7 +29,7 @@ use Rattle.evaluation_rules.specs.SharedText.{outside_shared_text}
 -- `alter` calls its function with the value of a ref and these arguments, and sets what that gives.
 abbrev pub altering_value : Evaluator → NamedFunctionData → List Datum → RefNameData → Datum
     → Part Datum
-altering_value walk f args name d = function_called walk f (d ∷ args) >>= held_value name
+altering_value walk f args name d = function_called walk f (d ∷ args) |> held_value name
 
 -- `commute` applies a function of the language so, and notes it with what it gave. Another
 -- function's call counts, and its number of arguments is looked at.
@@ -44,7 +44,7 @@ not_of_core false name n = fails (failures.wrong_arity name n)
 
 abbrev pub commute_applied : NamedFunctionData → List Datum → RefNameData → Datum → Part Datum
 commute_applied (core_function f) args name d =
-    core_call f (d ∷ args) >>= commute_noted name (record { function = f; arguments = args })
+    core_call f (d ∷ args) |> commute_noted name (record { function = f; arguments = args })
 commute_applied (store_function f) args name d =
     not_of_core (store_fits f (suc (length args))) (store_name_of f) (suc (length args))
 commute_applied (program_function f) args name d =
@@ -85,14 +85,14 @@ counted_call walk callee args next kept =
 
 -- the arguments, and then the call
 abbrev pub call_value : Evaluator → PlaceData → List Datum → CalleeData → Part Datum
-call_value walk p forms callee = row (walk p) forms >>= counted_call walk callee
+call_value walk p forms callee = row (walk p) forms |> counted_call walk callee
 
 -- `alter`, `commute`, `swap!`, `send` and `send-off` take a function by its name, between the first
 -- argument and those behind it.
 abbrev pub updating_call : Evaluator → PlaceData → Update → Datum → Datum → List Datum → Part Datum
 updating_call walk p by d e ds =
-    walk p d >>= λ v. (function_value p e
-    >>= λ f. (row (walk p) ds >>= λ vs. counted_call walk (update_callee by f) (v ∷ vs)))
+    walk p d |> λ v. (function_value p e
+    |> λ f. (row (walk p) ds |> λ vs. counted_call walk (update_callee by f) (v ∷ vs)))
 
 -- A call of a function that is named at the head of a list.
 abbrev pub named_call : Evaluator → PlaceData → List Datum → NamedFunctionData → Part Datum

@@ -40,9 +40,9 @@ abbrev pub Part : Type 0 → Type 0
 Part A = (A → Kept → Doing) → Kept → Doing
 
 -- one part, and then the next with what the first gave
-infixl 10 ◌>>=◌
-abbrev pub ◌>>=◌ : {A B : Type 0} → Part A → (A → Part B) → Part B
-◌>>=◌ part behind next kept = part (λ a. behind a next) kept
+infixl 10 ◌|>◌
+abbrev pub ◌|>◌ : {A B : Type 0} → Part A → (A → Part B) → Part B
+◌|>◌ part behind next kept = part (λ a. behind a next) kept
 
 abbrev pub pure_part : {A : Type 0} → A → Part A
 pure_part a next kept = next a kept

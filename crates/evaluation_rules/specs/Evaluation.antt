@@ -12,7 +12,7 @@ use Rattle.special_forms.specs.Rows.{in_a_row}
 use Rattle.special_forms.specs.Names.{special_named}
 use Rattle.special_forms.specs.Shapes.{shape_of}
 use Rattle.special_forms.specs.declared.special.SpecialForm.{SpecialForm}
-use Rattle.evaluation_rules.specs.Doing.{Kept, gave, left, Part, ◌>>=◌, pure_part, fails}
+use Rattle.evaluation_rules.specs.Doing.{Kept, gave, left, Part, ◌|>◌, pure_part, fails}
 use Rattle.repl_asks.specs.InteractionTree.{InteractionTree}
 use Rattle.evaluation_rules.specs.Tree.{written_tree}
 use Rattle.evaluation_rules.specs.Places.{PlaceData, Evaluator, outside}
@@ -29,7 +29,7 @@ use Rattle.evaluation_rules.specs.declared.limits.TheConstants.{CALLS, ROOM}
 abbrev pub headed_value : Evaluator → PlaceData → List ℕ → List Datum → Option SpecialForm
     → Part Datum
 headed_value walk p s forms (Some special) = special_value walk p special (shape_of special forms)
-headed_value walk p s forms None = resolution p s >>= as_function >>= λ f. named_call walk p forms f
+headed_value walk p s forms None = resolution p s |> as_function |> λ f. named_call walk p forms f
 
 abbrev pub list_value : Evaluator → PlaceData → Datum → List Datum → Part Datum
 list_value walk p (symbol s) forms = headed_value walk p s forms (special_named s)
@@ -44,9 +44,9 @@ value_at room p (list no_items) = pure_part (list no_items)
 value_at zero p (list (item d ds)) = fails failures.too_deep
 value_at (suc room) p (list (item d ds)) = list_value (value_at room) p d (listed ds)
 value_at zero p (vector ds) = fails failures.too_deep
-value_at (suc room) p (vector ds) = row (value_at room p) (listed ds) >>= vector_value
+value_at (suc room) p (vector ds) = row (value_at room p) (listed ds) |> vector_value
 value_at zero p (map ps) = fails failures.too_deep
-value_at (suc room) p (map ps) = row (value_at room p) (in_a_row ps) >>= map_value
+value_at (suc room) p (map ps) = row (value_at room p) (in_a_row ps) |> map_value
 value_at room p d = pure_part d
 
 -- of the shared text, what is no definition is not evaluated at all

@@ -13,7 +13,7 @@ use Rattle.repl_asks.specs.Exchange.{resolve, NamedFunctionData, core_function, 
 use Rattle.repl_asks.specs.Exchange.{ResolutionData, names_value, names_function, names_nothing}
 use Rattle.special_forms.specs.Locals.{local_value}
 use Rattle.repl_values.specs.Slash.{is_slash}
-use Rattle.evaluation_rules.specs.Doing.{Part, ◌>>=◌, pure_part, fails, resolving}
+use Rattle.evaluation_rules.specs.Doing.{Part, ◌|>◌, pure_part, fails, resolving}
 use Rattle.evaluation_rules.specs.Places.{PlaceData, space_of}
 
 -- what follows the slash of a name in `clojure.core`
@@ -63,7 +63,7 @@ as_value s (names_function f) = fails (failures.not_a_value s)
 as_value s (names_nothing f) = fails f
 
 abbrev pub symbol_value : PlaceData → List ℕ → Part Datum
-symbol_value p s = resolution p s >>= as_value s
+symbol_value p s = resolution p s |> as_value s
 
 -- at the head of a list
 abbrev pub as_function : ResolutionData → Part NamedFunctionData
@@ -73,5 +73,5 @@ as_function (names_nothing f) = fails f
 
 -- in the place of a function's argument, which is a function's name
 abbrev pub function_value : PlaceData → Datum → Part NamedFunctionData
-function_value p (symbol s) = resolution p s >>= as_function
+function_value p (symbol s) = resolution p s |> as_function
 function_value p d = fails (failures.not_a_function d)

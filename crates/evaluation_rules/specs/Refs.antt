@@ -15,7 +15,7 @@ use Rattle.evaluation_rules.specs.Calling.{asks_permission}
 use Rattle.evaluation_rules.specs.Calling.{call_data_of, shared_call_data_of, action_call_data_of}
 use Rattle.evaluation_rules.specs.declared.occasion.Occasion.{Occasion}
 use Rattle.evaluation_rules.specs.Doing.{left, failed, retried, asking, looking, noting, Part}
-use Rattle.evaluation_rules.specs.Doing.{◌>>=◌, fails}
+use Rattle.evaluation_rules.specs.Doing.{◌|>◌, fails}
 
 -- A value that was read is noted. One that is kept no longer ends the attempt, and another is made.
 abbrev pub read_value : RefNameData → ReadingData → Part Datum
@@ -49,11 +49,11 @@ abbrev pub ensure_noted : RefNameData → Datum → Part Datum
 ensure_noted name d next kept = noting (ensured name d) (next d kept)
 
 unfoldable pub ensured_value : RefNameData → Part Datum
-ensured_value name = ref_value name >>= ensure_noted name
+ensured_value name = ref_value name |> ensure_noted name
 
 -- the same, where it was read
 abbrev pub ensured_read : RefNameData → ReadingData → Part Datum
-ensured_read name r = read_value name r >>= ensure_noted name
+ensured_read name r = read_value name r |> ensure_noted name
 
 abbrev pub asked_value : AskData → Part Datum
 asked_value ask next kept = asking ask (λ answer. next (value_in answer) kept)
@@ -88,5 +88,5 @@ store_call f args next kept =
 -- `alter` and `commute` read a ref and go on with its value
 abbrev pub altered_value : Result RefNameData Failure → (RefNameData → Datum → Part Datum)
     → Part Datum
-altered_value (Ok name) behind = ref_value name >>= behind name
+altered_value (Ok name) behind = ref_value name |> behind name
 altered_value (Err f) behind = fails f

@@ -17,9 +17,9 @@ use Rattle.special_forms.specs.Shapes.{bindings, logic, definition, function_def
 use Rattle.special_forms.specs.Shapes.{entry, computed_entry}
 use Rattle.special_forms.specs.declared.shapes.Logic.{Logic}
 use Rattle.special_forms.specs.declared.special.SpecialForm.{SpecialForm}
-use Rattle.evaluation_rules.specs.Doing.{failed, left, asking, Part, ◌>>=◌, pure_part, fails}
+use Rattle.evaluation_rules.specs.Doing.{failed, left, asking, Part, ◌|>◌, pure_part, fails}
 use Rattle.evaluation_rules.specs.Places.{PlaceData, Evaluator, with_local, space_of}
-use Rattle.evaluation_rules.specs.Rows.{last_of}
+use Rattle.evaluation_rules.specs.Rows.{value_of_last}
 use Rattle.evaluation_rules.specs.SharedText.{outside_shared_text, refused_definition}
 use Rattle.evaluation_rules.specs.Transactions.{transaction_value, effects_value}
 
@@ -27,13 +27,13 @@ use Rattle.evaluation_rules.specs.Transactions.{transaction_value, effects_value
 abbrev pub logic_value : (Datum → Part Datum) → Logic → Datum → List Datum → Part Datum
 logic_value walk which last [] = pure_part last
 logic_value walk which last (d ∷ ds) =
-    if decides which last then pure_part last else (walk d >>= λ v. logic_value walk which v ds)
+    if decides which last then pure_part last else (walk d |> λ v. logic_value walk which v ds)
 
 -- names are bound one after another, each for what stands behind it
 abbrev pub let_value : Evaluator → PlaceData → List BoundForm → List Datum → Part Datum
-let_value walk p [] forms = last_of (walk p) nil forms
+let_value walk p [] forms = value_of_last (walk p) nil forms
 let_value walk p (b ∷ bs) forms = walk p b.form
-    >>= λ v. let_value walk (with_local p b.name v) bs forms
+    |> λ v. let_value walk (with_local p b.name v) bs forms
 
 -- the name is bound in the namespace; the form's value is the var
 abbrev pub defined_value : Option Failure → List ℕ → List ℕ → BindingData → Part Datum
@@ -77,20 +77,20 @@ thrown_value d = fails (thrown_failure (shown_text d))
 -- Where a form may not stand in a place, that is said here, before anything in it is evaluated.
 abbrev pub shape_value : Evaluator → PlaceData → ShapeData → Part Datum
 shape_value walk p (quoted d) = pure_part d
-shape_value walk p (body forms) = last_of (walk p) nil forms
+shape_value walk p (body forms) = value_of_last (walk p) nil forms
 shape_value walk p (transaction forms) =
-    outside_shared_text (transaction_value (last_of (walk p) nil forms))
+    outside_shared_text (transaction_value (value_of_last (walk p) nil forms))
 shape_value walk p (effects forms) =
-    outside_shared_text (effects_value (last_of (walk p) nil forms))
+    outside_shared_text (effects_value (value_of_last (walk p) nil forms))
 shape_value walk p (choice c consequent alternative) = walk p c
-    >>= λ v. last_of (walk p) nil (if is_truthy v then consequent else alternative)
+    |> λ v. value_of_last (walk p) nil (if is_truthy v then consequent else alternative)
 shape_value walk p (bindings bs forms) = let_value walk p bs forms
 shape_value walk p (logic which forms) = logic_value (walk p) which (before which) forms
-shape_value walk p (definition s d) = walk p d >>= λ v. definition_value p s (bound_value v)
+shape_value walk p (definition s d) = walk p d |> λ v. definition_value p s (bound_value v)
 shape_value walk p (function_definition s params forms) = function_defined p s params forms
-shape_value walk p (thrown d) = walk p d >>= thrown_value
+shape_value walk p (thrown d) = walk p d |> thrown_value
 shape_value walk p (entry s) = outside_shared_text (entry_value s)
-shape_value walk p (computed_entry d) = outside_shared_text (walk p d >>= computed_entry_value)
+shape_value walk p (computed_entry d) = outside_shared_text (walk p d |> computed_entry_value)
 
 abbrev pub special_value : Evaluator → PlaceData → SpecialForm → Option ShapeData → Part Datum
 special_value walk p special (Some shape) = shape_value walk p shape

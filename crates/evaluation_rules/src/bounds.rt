@@ -22,7 +22,7 @@ pub(crate) enum HistoryBound {
 
 /// The least count of a ref's history, and the greatest.
 #[derive(Clone, Copy)]
-pub(crate) struct Bounds {
+pub(crate) struct HistoryBounds {
     pub(crate) least: u64,
     pub(crate) most: u64,
 }
@@ -49,16 +49,16 @@ impl HistoryBound {
     }
 }
 
-impl Bounds {
-    fn with(self, bound: HistoryBound, count: u64) -> Bounds
+impl HistoryBounds {
+    fn with(self, bound: HistoryBound, count: u64) -> HistoryBounds
         ensures { bounds_view result ≡ meant.with_bound bound count (bounds_view self) }
     {
         match bound {
-            HistoryBound::Least => Bounds {
+            HistoryBound::Least => HistoryBounds {
                 least: count,
                 ..self
             },
-            HistoryBound::Greatest => Bounds {
+            HistoryBound::Greatest => HistoryBounds {
                 most: count,
                 ..self
             },
@@ -69,10 +69,10 @@ impl Bounds {
 // The bounds of a new ref with these options, each in front of its count; the last of an odd number
 // is left out.
 #[tactic(auto, using(crate::proofs::Options::options))]
-pub(crate) fn bounds_in(alloc: Global, options: &[Value]) -> Result<Bounds, ApplyError>
+pub(crate) fn bounds_in(alloc: Global, options: &[Value]) -> Result<HistoryBounds, ApplyError>
     ensures { Gives bounds_view result (meant.bounds_in meant.usual_bounds (views options.now)) }
 {
-    let mut bounds = Bounds { least: 0, most: 10 };
+    let mut bounds = HistoryBounds { least: 0, most: 10 };
     let mut left = options;
     while left.len() >= 2 {
         bounds = with_option(alloc, bounds, &left[0], &left[1])?;
@@ -83,10 +83,10 @@ pub(crate) fn bounds_in(alloc: Global, options: &[Value]) -> Result<Bounds, Appl
 
 fn with_option(
     alloc: Global,
-    bounds: Bounds,
+    bounds: HistoryBounds,
     option: &Value,
     count: &Value,
-) -> Result<Bounds, ApplyError>
+) -> Result<HistoryBounds, ApplyError>
     ensures { Gives bounds_view result
         (meant.with_option (bounds_view bounds) (view option.now) (view count.now)) }
 {

@@ -23,7 +23,7 @@ pub(crate) struct Size {
 }
 
 #[derive(Clone, Copy, Debug, Default)]
-pub(crate) struct Counts {
+pub(crate) struct CellCounts {
     pub(crate) ran: u64,
     pub(crate) kept: u64,
 }
@@ -99,10 +99,10 @@ fn try_all(alloc: Global, tries: u64) -> Result<u64, AllocError> {
     Ok(kept)
 }
 
-pub(crate) fn run(alloc: Global, size: Size) -> Result<Counts, AllocError> {
+pub(crate) fn run(alloc: Global, size: Size) -> Result<CellCounts, AllocError> {
     let mut agents = Agents::new(alloc);
     send_all(alloc, &mut agents, size)?;
-    Ok(Counts {
+    Ok(CellCounts {
         ran: run_all(&mut agents, size.sends),
         kept: try_all(alloc, size.tries)?,
     })

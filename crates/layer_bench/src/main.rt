@@ -40,7 +40,7 @@ fn time_refs<H: History>(
     requires { (id : RefId) → IsAbsent (H.stands history) id }
 {
     let counts = refs::run(rt.alloc(), history, refs::size_of(words))?;
-    let refs::Counts {
+    let refs::RefCounts {
         committed,
         found,
         to_retry,
@@ -50,13 +50,13 @@ fn time_refs<H: History>(
 
 fn time_cells(rt: &HostRuntime, words: &mut SplitWhitespace<'_>) -> io::Result<()> {
     let counts = cells::run(rt.alloc(), cells::size_of(words))?;
-    let cells::Counts { ran, kept } = counts;
+    let cells::CellCounts { ran, kept } = counts;
     println!(rt; "{ran} ran, {kept} kept")
 }
 
 fn time_walker(rt: &HostRuntime, words: &mut SplitWhitespace<'_>) -> io::Result<()> {
     let counts = walker::run(rt.alloc(), walker::size_of(words))?;
-    let walker::Counts {
+    let walker::WalkCounts {
         asked,
         conflicts,
         values,

@@ -23,7 +23,7 @@ pub(crate) struct Size {
 }
 
 #[derive(Clone, Copy, Debug, Default)]
-pub(crate) struct Counts {
+pub(crate) struct RefCounts {
     pub(crate) committed: u64,
     pub(crate) found: u64,
     pub(crate) to_retry: u64,
@@ -93,7 +93,7 @@ fn set_all<H: History>(
     alloc: Global,
     table: &mut RefTable<H>,
     names: &[RefName],
-    counts: &mut Counts,
+    counts: &mut RefCounts,
 ) -> Result<(), AllocError> {
     for name in names {
         if set(alloc, table, *name)? {
@@ -108,7 +108,7 @@ fn read_all<H: History>(
     table: &mut RefTable<H>,
     names: &[RefName],
     point: Point,
-    counts: &mut Counts,
+    counts: &mut RefCounts,
 ) -> Result<(), AllocError> {
     for name in names {
         match table.read(tenant_of(*name), *name, Some(point))? {
@@ -160,11 +160,15 @@ fn commute<H: History>(
 }
 
 /// The versions of the refs are kept in this history, in which no ref is yet.
-pub(crate) fn run<H: History>(alloc: Global, history: H, size: Size) -> Result<Counts, AllocError>
+pub(crate) fn run<H: History>(
+    alloc: Global,
+    history: H,
+    size: Size,
+) -> Result<RefCounts, AllocError>
     requires { (id : RefId) → IsAbsent (H.stands history) id }
 {
     let mut table = RefTable::new(alloc, history);
-    let mut counts = Counts::default();
+    let mut counts = RefCounts::default();
     let names = make_all(alloc, &mut table, size)?;
     let mut points = Vec::new(alloc);
     for _ in 0..size.rounds {

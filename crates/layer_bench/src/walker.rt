@@ -15,7 +15,7 @@ pub(crate) struct Size {
 }
 
 #[derive(Clone, Copy, Debug, Default)]
-pub(crate) struct Counts {
+pub(crate) struct WalkCounts {
     pub(crate) asked: u64,
     pub(crate) conflicts: u64,
     pub(crate) values: u64,
@@ -52,7 +52,7 @@ const REF: RefName = RefName {
     number: 0,
 };
 
-fn answer(ask: &Ask, size: Size, counts: &mut Counts) -> Answer {
+fn answer(ask: &Ask, size: Size, counts: &mut WalkCounts) -> Answer {
     counts.asked = counts.asked.saturating_add(1);
     match ask {
         Ask::Resolve { .. } => Answer::Resolution(Resolution::Value(Value::Ref(REF))),
@@ -77,7 +77,7 @@ fn one_further(
     alloc: Global,
     reached: Reached,
     size: Size,
-    counts: &mut Counts,
+    counts: &mut WalkCounts,
 ) -> Result<Reached, AllocError> {
     match reached {
         Reached::Asks(waiting, ask) => waiting.go_on(alloc, answer(&ask, size, counts)),
@@ -95,8 +95,8 @@ fn values_in(reached: &Reached) -> u64 {
     }
 }
 
-pub(crate) fn run(alloc: Global, size: Size) -> Result<Counts, AllocError> {
-    let mut counts = Counts::default();
+pub(crate) fn run(alloc: Global, size: Size) -> Result<WalkCounts, AllocError> {
+    let mut counts = WalkCounts::default();
     let mut reached = begin(alloc, &job(alloc, size)?)?;
     for _ in 0..most_asks(size) {
         reached = one_further(alloc, reached, size, &mut counts)?;

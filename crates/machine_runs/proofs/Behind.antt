@@ -19,7 +19,7 @@ use Rattle.server_rules.specs.DeedResult.{DeedResult, deed_result}
 use Rattle.server_rules.specs.Grounds.{IsRight}
 use Rattle.server_rules.specs.LoneTurns.{LoneTurn, LoneTenant, goes, drains, accepted, deed_of, lone_step}
 use Rattle.server_rules.specs.LoneTurns.{stepped_as, lone_ended, opened_lone}
-use Rattle.server_rules.specs.Inside.Turned.{Accepted, IsRefusedTurn}
+use Rattle.server_rules.specs.Inside.Turned.{AcceptedWith, IsRefusedTurn}
 use Rattle.repl_core.specs.Grounds.{Evaluates}
 use Rattle.repl_core.specs.Inside.WalkAt.{walk_at}
 use Rattle.tenant_world.specs.Standing as tenants
@@ -171,14 +171,14 @@ refuses-turn g l turn d old new why s is same told ne = (
 
 pub accepted-so : (g : Ground) (l : LoneTenant) (turn : LoneTurn) (new : Runner) (bytes : List ℕ)
     → ((it : LoneTenant) × (lone_step g l turn ≡ accepted it bytes) × RunnerStands g new it)
-    → Accepted (RunnerStands g new) (lone_step g l turn)
-accepted-so g l turn new bytes it = subst (Accepted (RunnerStands g new)) (sym it.1) it.2
+    → AcceptedWith (RunnerStands g new) (lone_step g l turn)
+accepted-so g l turn new bytes it = subst (AcceptedWith (RunnerStands g new)) (sym it.1) it.2
 
 -- an actor goes on
 pub goes-turn : {X : Type 0} (g : Ground) (l : LoneTenant) (a : Actor) (old new : Runner)
     (res : Result X Refusal) (s : RunnerStands g old l)
     → OnOk res (AcceptsHonestStep g s.world 0 a new.machine new.walks)
-    → OnOk res (Accepted (RunnerStands g new) (lone_step g l (goes a)))
+    → OnOk res (AcceptedWith (RunnerStands g new) (lone_step g l (goes a)))
 goes-turn g l a old new (Err why) s did = tt
 goes-turn g l a old new (Ok x) s did =
     accepted-so g l (goes a) new _

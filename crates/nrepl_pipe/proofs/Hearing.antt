@@ -11,7 +11,7 @@ use Rattle.server_rules.specs.Plan.{Outcome, refuses, leaves}
 use Rattle.server_rules.specs.Plan.{bytes_in}
 use Rattle.server_rules.specs.declared.refusal.Refusal.{Refusal}
 use Rattle.server_rules.specs.DeedResult.{carried_out, deed_result}
-use Rattle.server_rules.specs.Inside.Turned.{Accepted}
+use Rattle.server_rules.specs.Inside.Turned.{AcceptedWith}
 use Rattle.server_rules.specs.LoneTurns.{LoneTenant, hears, LoneStepped, accepted, refused, lone_ended}
 use Rattle.server_rules.specs.LoneTurns.{stepped_as, lone_step, lone_or, reply_taken, lone_after}
 use Rattle.nrepl_pipe.specs.Inside.Fresh.{IsReady}
@@ -99,7 +99,7 @@ pub record TakesIn (g : Ground) (Stands : LoneTenant → Type 0) (l : LoneTenant
   pub heard : (lone_after g l (hears piece)).state.heard ≡ l.state.heard ++ piece
 
 takes-in_by : (g : Ground) (Stands : LoneTenant → Type 0) (l : LoneTenant) (piece : List ℕ) (s : LoneStepped)
-    → lone_step g l (hears piece) ≡ s → PieceSo g l piece s → Accepted Stands s
+    → lone_step g l (hears piece) ≡ s → PieceSo g l piece s → AcceptedWith Stands s
     → TakesIn g Stands l piece
 takes-in_by g Stands l piece (accepted new bytes) is so stands =
     let same : lone_after g l (hears piece) ≡ new = ap (lone_or l) is in
@@ -113,6 +113,6 @@ takes-in_by g Stands l piece (accepted new bytes) is so stands =
 takes-in_by g Stands l piece (refused why) is so never = absurd never
 
 pub takes-in : (g : Ground) (Stands : LoneTenant → Type 0) (l : LoneTenant) (piece : List ℕ)
-    → Accepted Stands (lone_step g l (hears piece)) → TakesIn g Stands l piece
+    → AcceptedWith Stands (lone_step g l (hears piece)) → TakesIn g Stands l piece
 takes-in g Stands l piece stands =
     takes-in_by g Stands l piece (lone_step g l (hears piece)) refl (hears-so g l piece) stands

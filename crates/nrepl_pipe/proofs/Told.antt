@@ -4,7 +4,7 @@ use Rattle.std.proofs.Common.{◌∙◌, subst}
 use Rattle.std.specs.Prelude.{◌↔◌, ⊤}
 use Rattle.server_rules.specs.Ground.{Ground}
 use Rattle.server_rules.specs.declared.refusal.Refusal.{Refusal}
-use Rattle.server_rules.specs.Inside.Turned.{Accepted}
+use Rattle.server_rules.specs.Inside.Turned.{AcceptedWith}
 use Rattle.server_rules.specs.LoneTurns.{LoneTenant, LoneTurn, LoneStepped, accepted, refused, lone_step}
 use Rattle.server_rules.specs.LoneTurns.{lone_run}
 use Rattle.nrepl_pipe.specs.Schedule.{Rests, AllRest, MeetsWorn}
@@ -51,11 +51,11 @@ now-worn g q turns turn is = (
   λ _. refl,
 )
 
-accepted-goes_on : (s : LoneStepped) → Accepted (λ q. ⊤) s → Rests s → ⊥
+accepted-goes_on : (s : LoneStepped) → AcceptedWith (λ q. ⊤) s → Rests s → ⊥
 accepted-goes_on (accepted new bytes) is rests = rests
 accepted-goes_on (refused why) is rests = is
 
-accepted-not_worn : (s : LoneStepped) → Accepted (λ q. ⊤) s → s ≡ refused Refusal.Worn → ⊥
+accepted-not_worn : (s : LoneStepped) → AcceptedWith (λ q. ⊤) s → s ≡ refused Refusal.Worn → ⊥
 accepted-not_worn (accepted new bytes) is worn = cc
 accepted-not_worn (refused why) is worn = is
 

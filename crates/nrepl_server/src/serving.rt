@@ -18,7 +18,7 @@ use thiserror::Error;
 
 // Why not all was served, or not told.
 #[derive(Debug, Drop, Error)]
-enum Failure {
+enum ServingFailure {
     #[error("{0}")]
     Serve(ServeError),
     #[error("read failed")]
@@ -46,7 +46,7 @@ pub(crate) fn serve_command<
     }
     match listen_and_serve(rt, alloc, config, service, writer) {
         Ok(()) => 0,
-        Err(Failure::Serve(ServeError::SharedText(fault))) => faulty_text(errors, &fault),
+        Err(ServingFailure::Serve(ServeError::SharedText(fault))) => faulty_text(errors, &fault),
         Err(failure) => {
             let _ = writeln!(errors, "nrepl: {failure}");
             1
@@ -70,15 +70,21 @@ fn listen_and_serve<
         + Sync
         + 'static,
     W: Write,
->(rt: R, alloc: Global, config: Config, service: Service, writer: &mut W) -> Result<(), Failure> {
+>(
+    rt: R,
+    alloc: Global,
+    config: Config,
+    service: Service,
+    writer: &mut W,
+) -> Result<(), ServingFailure> {
     let Ok(listener) = TcpListener::bind(&rt, (Ipv4Addr::LOCALHOST, service.port)) else {
-        return Err(Failure::Listen);
+        return Err(ServingFailure::Listen);
     };
     let Ok(address) = listener.local_addr() else {
-        return Err(Failure::Listen);
+        return Err(ServingFailure::Listen);
     };
     if tell_port(address.port(), writer).is_err() {
-        return Err(Failure::Write);
+        return Err(ServingFailure::Write);
     }
     let options = Options {
         connections: u64::from(service.connections),
@@ -88,9 +94,9 @@ fn listen_and_serve<
     match serve_as::<Brand, R>(rt, alloc, blank, &listener, config, options) {
         Ok(report) => match tell_rows(&report, writer) {
             Ok(()) => Ok(()),
-            Err(_) => Err(Failure::Write),
+            Err(_) => Err(ServingFailure::Write),
         },
-        Err(error) => Err(Failure::Serve(error)),
+        Err(error) => Err(ServingFailure::Serve(error)),
     }
 }
 

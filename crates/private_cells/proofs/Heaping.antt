@@ -3,7 +3,7 @@ use Rattle.std.proofs.Common.{◌≡◌, ℕ, ◌+◌, ◌<◌, ◌≤◌, List,
 use Rattle.std.proofs.Common.{Option, Some, None, option_map, arith, IfSome}
 use Rattle.std.proofs.lemmas.List.Sums.{sum_by-cons}
 use Rattle.private_cells.specs.Agents.{AgentData, ActionTurn}
-use Rattle.private_cells.specs.Inside.Turns.{HeapTurn, turn_at, weight, heap_sum, HasTurns}
+use Rattle.private_cells.specs.Inside.Turns.{HeapTurn, turn_at, turn_weight, heap_sum, HasTurns}
 use Rattle.private_cells.specs.Inside.Changes.{OpensAt}
 use Rattle.private_cells.proofs.Keeping.{turns_bounded}
 
@@ -15,7 +15,7 @@ heap_count (e ∷ es) =
     omega (arith, more, behind)
 
 room_by : (number : Option ℕ) (place len more room : ℕ)
-    → weight (λ _. 1) (option_map (turn_at place) number) + len ≤ more → more ≤ room
+    → turn_weight (λ _. 1) (option_map (turn_at place) number) + len ≤ more → more ≤ room
     → IfSome number (λ _. len < room)
 room_by None place len more room h r = tt
 room_by (Some n) place len more room h r = omega arith
@@ -35,7 +35,7 @@ room_to_open es old new place len room number h o l r =
 pub turns_opened : (es fs : List HeapTurn) (old new : List AgentData) (place : ℕ) (number : Option ℕ)
     → HasTurns es old → OpensAt place number old new
     → ((f : ActionTurn → ℕ) → heap_sum f fs
-    ≡ weight f (option_map (turn_at place) number) + heap_sum f es)
+    ≡ turn_weight f (option_map (turn_at place) number) + heap_sum f es)
     → HasTurns fs new
 turns_opened es fs old new place number h o p = λ f.
     let opened = o f in

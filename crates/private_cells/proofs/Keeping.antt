@@ -11,7 +11,7 @@ use Rattle.private_cells.specs.Actions.{is_of}
 use Rattle.private_cells.specs.Agents.{AgentData, SentAction, ActionTurn, with_begun, begun}
 use Rattle.private_cells.specs.Agents.{at_rest}
 use Rattle.private_cells.specs.Agents.{over_with, runs_action}
-use Rattle.private_cells.specs.Inside.Turns.{weight, open_sum, open_turn}
+use Rattle.private_cells.specs.Inside.Turns.{turn_weight, open_sum, open_turn}
 use Rattle.private_cells.specs.Inside.Kept.{waiting_at, count_from, runs_at}
 use Rattle.private_cells.specs.Inside.Changes.{with_these}
 
@@ -179,10 +179,10 @@ runs_made d (suc i) (x ∷ xs) = runs_made d i xs
 pub turns_made : (d : Datum) (f : ActionTurn → ℕ) (p : ℕ) (xs : List AgentData)
     → open_sum f p (xs ++ at_rest d ∷ []) ≡ open_sum f p xs
 turns_made d f p [] = omega arith
-turns_made d f p (x ∷ xs) = ap (λ n. weight f (open_turn p x) + n) (turns_made d f (suc p) xs)
+turns_made d f p (x ∷ xs) = ap (λ n. turn_weight f (open_turn p x) + n) (turns_made d f (suc p) xs)
 
 -- no more turns than agents
-one_at_most : (t : Option ActionTurn) → weight (λ _. 1) t ≤ 1
+one_at_most : (t : Option ActionTurn) → turn_weight (λ _. 1) t ≤ 1
 one_at_most None = omega arith
 one_at_most (Some t) = omega arith
 

@@ -14,7 +14,7 @@ use Rattle.repl_values.specs.Failure.{Failure}
 use Rattle.private_cells.specs.Agents.{AgentData, AgentsData, SentAction, ActionTurn, turn_by}
 use Rattle.private_cells.specs.Agents.{action_turn}
 use Rattle.private_cells.specs.Agents.{earlier, earliest, runs_action, next_turn}
-use Rattle.private_cells.specs.Inside.Turns.{HeapTurn, turn_in, turn_at, weight, open_sum, heap_sum}
+use Rattle.private_cells.specs.Inside.Turns.{HeapTurn, turn_in, turn_at, turn_weight, open_sum, heap_sum}
 use Rattle.private_cells.specs.Inside.Turns.{HasTurns, IsFirst, IsThere, open_turn, open_by}
 use Rattle.private_cells.specs.Inside.Turns.{open_turn_of}
 use Rattle.private_cells.specs.Inside.Turns.{open_at}
@@ -43,12 +43,12 @@ one_for_same u w h =
     let agents : u.agent ≡ w.agent = eqb-true u.agent w.agent both.1 in
     ap (λ n. turn_at u.agent n) numbers ∙ ap (λ a. turn_at a w.number) agents
 
-weighed : (u : ActionTurn) (o : Option ActionTurn) → 1 ≤ weight (one_for u) o → o ≡ Some u
+weighed : (u : ActionTurn) (o : Option ActionTurn) → 1 ≤ turn_weight (one_for u) o → o ≡ Some u
 weighed u None h = absurd (omega arith)
 weighed u (Some x) h = ap (λ t. Some t) (sym (one_for_same u x h))
 
-weighs_one : (u : ActionTurn) (o : Option ActionTurn) → o ≡ Some u → weight (one_for u) o ≡ 1
-weighs_one u o h = ap (weight (one_for u)) h ∙ one_for_itself u
+weighs_one : (u : ActionTurn) (o : Option ActionTurn) → o ≡ Some u → turn_weight (one_for u) o ≡ 1
+weighs_one u o h = ap (turn_weight (one_for u)) h ∙ one_for_itself u
 
 one_of : (m n : ℕ) → 1 ≤ m + n → (1 ≤ m) ⊎ (1 ≤ n)
 one_of zero n h = inr (omega arith)
@@ -120,7 +120,7 @@ pub record Stands (t : ActionTurn) (p : ℕ) (xs : List AgentData) : Type 0 wher
   pub there : open_turn_of t.agent (slice_get xs place) ≡ Some t
 
 stands_by : (t : ActionTurn) (p : ℕ) (a : AgentData) (xs : List AgentData) {m : ℕ}
-    → (1 ≤ weight (one_for t) (open_turn p a)) ⊎ (1 ≤ m) → (1 ≤ m → Stands t (suc p) xs)
+    → (1 ≤ turn_weight (one_for t) (open_turn p a)) ⊎ (1 ≤ m) → (1 ≤ m → Stands t (suc p) xs)
     → Stands t p (a ∷ xs)
 stands_by t p a xs (inl here) behind =
     let it = weighed t (open_turn p a) here in
@@ -138,7 +138,7 @@ pub stands : (t : ActionTurn) (p : ℕ) (xs : List AgentData) → 1 ≤ open_sum
     → Stands t p xs
 stands t p [] h = absurd (omega arith)
 stands t p (a ∷ xs) h =
-    stands_by t p a xs (one_of (weight (one_for t) (open_turn p a))
+    stands_by t p a xs (one_of (turn_weight (one_for t) (open_turn p a))
     (open_sum (one_for t) (suc p) xs) h)
     (λ rest. stands t (suc p) xs rest)
 
@@ -157,7 +157,7 @@ earlier_one (Some x) (Some z) y h = of_two (nat_lt z.number x.number) x y z h
 
 occurs_by : (p : ℕ) (a : AgentData) (y : ActionTurn) (m : ℕ) (e : Option ActionTurn)
     → open_turn p a ≡ action_turn p a → (action_turn p a ≡ Some y) ⊎ (e ≡ Some y)
-    → (e ≡ Some y → 1 ≤ m) → 1 ≤ weight (one_for y) (open_turn p a) + m
+    → (e ≡ Some y → 1 ≤ m) → 1 ≤ turn_weight (one_for y) (open_turn p a) + m
 occurs_by p a y m e same (inl here) behind =
     let one = weighs_one y (open_turn p a) (same ∙ here) in
     omega (arith, one)
@@ -205,7 +205,7 @@ strictly_by a b c d (inr e) l i m =
 earliest_by : (p : ℕ) (a : AgentData) (xs : List AgentData) (t : ActionTurn)
     → ((j : ℕ) → runs_at j (a ∷ xs) ≡ false)
     → ((u : ActionTurn) → 1 ≤ open_sum (one_for u) p (a ∷ xs) → NotBehind t u)
-    → (1 ≤ weight (one_for t) (open_turn p a)) ⊎ (1 ≤ open_sum (one_for t) (suc p) xs)
+    → (1 ≤ turn_weight (one_for t) (open_turn p a)) ⊎ (1 ≤ open_sum (one_for t) (suc p) xs)
     → (1 ≤ open_sum (one_for t) (suc p) xs → earliest (suc p) xs ≡ Some t)
     → earliest p (a ∷ xs) ≡ Some t
 earliest_by p a xs t k least (inl here) behind =
@@ -232,7 +232,7 @@ pub first_is_earliest : (p : ℕ) (xs : List AgentData) (t : ActionTurn)
 first_is_earliest p [] t k h least = absurd (omega arith)
 first_is_earliest p (a ∷ xs) t k h least =
     earliest_by p a xs t k least
-    (one_of (weight (one_for t) (open_turn p a)) (open_sum (one_for t) (suc p) xs) h)
+    (one_of (turn_weight (one_for t) (open_turn p a)) (open_sum (one_for t) (suc p) xs) h)
     (λ rest. first_is_earliest (suc p) xs t (λ j. k (suc j)) rest
     (λ u more. least u (omega (arith, more))))
 

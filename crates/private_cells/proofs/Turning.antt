@@ -5,7 +5,7 @@ use Rattle.std.proofs.Common.{◌∙◌, Option, Some, None, option_map, arith, 
 use Rattle.std.specs.Prelude.{slice_get}
 use Rattle.repl_values.specs.Failure.{Failure}
 use Rattle.private_cells.specs.Agents.{AgentData, SentAction, ActionTurn, with_begun, begun}
-use Rattle.private_cells.specs.Inside.Turns.{turn_at, open_turn, open_by, weight, open_sum, Opens}
+use Rattle.private_cells.specs.Inside.Turns.{turn_at, open_turn, open_by, turn_weight, open_sum, Opens}
 
 -- what is seen at a place
 pub seen_at : {A B : Type 0} (g : A → B) (n : ℕ) (x : A) (xs : List A) → n < length xs
@@ -25,15 +25,15 @@ seen_none g (suc n) (y ∷ ys) l = seen_none g n ys (omega arith)
 pub set_sum : {A : Type 0} (g : A → AgentData) (f : ActionTurn → ℕ) (p n q : ℕ) (x y : A)
     (xs : List A)
     → n < length xs → x ≡ slice_index_or xs n x → q ≡ p + n
-    → open_sum f p (map g (slice_set xs n y)) + weight f (open_turn q (g x))
-    ≡ weight f (open_turn q (g y)) + open_sum f p (map g xs)
+    → open_sum f p (map g (slice_set xs n y)) + turn_weight f (open_turn q (g x))
+    ≡ turn_weight f (open_turn q (g y)) + open_sum f p (map g xs)
 set_sum g f p n q x y [] l h e = absurd (omega arith)
 set_sum g f p zero q x y (z ∷ zs) l h e =
     let at : q ≡ p = omega arith in
-    let same : weight f (open_turn q (g x)) ≡ weight f (open_turn p (g z)) =
-    ap (λ r. weight f (open_turn r (g x))) at ∙ ap (λ w. weight f (open_turn p (g w))) h in
-    let new : weight f (open_turn q (g y)) ≡ weight f (open_turn p (g y)) =
-    ap (λ r. weight f (open_turn r (g y))) at in
+    let same : turn_weight f (open_turn q (g x)) ≡ turn_weight f (open_turn p (g z)) =
+    ap (λ r. turn_weight f (open_turn r (g x))) at ∙ ap (λ w. turn_weight f (open_turn p (g w))) h in
+    let new : turn_weight f (open_turn q (g y)) ≡ turn_weight f (open_turn p (g y)) =
+    ap (λ r. turn_weight f (open_turn r (g y))) at in
     omega (arith, same, new)
 set_sum g f p (suc n) q x y (z ∷ zs) l h e =
     let behind = set_sum g f (suc p) n q x y zs (omega arith) h (omega arith) in
@@ -42,7 +42,7 @@ set_sum g f p (suc n) q x y (z ∷ zs) l h e =
 pub opens_set : {A : Type 0} (g : A → AgentData) (number : Option ℕ) (n : ℕ) (x y : A) (xs : List A)
     → n < length xs → x ≡ slice_index_or xs n x → Opens number (g x) (g y) → (f : ActionTurn → ℕ)
     → open_sum f 0 (map g (slice_set xs n y))
-    ≡ weight f (option_map (turn_at n) number) + open_sum f 0 (map g xs)
+    ≡ turn_weight f (option_map (turn_at n) number) + open_sum f 0 (map g xs)
 opens_set g number n x y xs l h o f =
     let sums = set_sum g f 0 n n x y xs l h (omega arith) in
     let here = o n f in

@@ -1,7 +1,7 @@
 // The agents of a tenant.
 ghost use Rattle.std.specs.Prelude.{◌≡◌, ℕ, ◌+◌, ◌<◌, ◌≤◌, ◌^◌, length};
 ghost use Rattle.std.specs.BinaryHeap.{heap_items, heap_capacity};
-ghost use Rattle.private_cells.specs.declared.counts.Sender.{Sender};
+ghost use Rattle.private_cells.specs.declared.counts.AgentSender.{AgentSender};
 ghost use Rattle.private_cells.specs.Inside.Seen.{cells_view};
 ghost use Rattle.private_cells.specs.Inside.Counted.{count_of};
 ghost use Rattle.private_cells.specs.Inside.Turns.{HasTurns};
@@ -33,7 +33,7 @@ pub struct Agents {
     pub(crate) sent: u128,
     ghost turns_kept: { HasTurns (heap_items turns.heap) (cells_view cells.items) },
     ghost turns_fit: { length cells.items ≤ heap_capacity turns.heap },
-    ghost counted: { (q : Sender) → count_of counts q
+    ghost counted: { (q : AgentSender) → count_of counts q
         ≡ count_from q.session (waiting_at q.agent (cells_view cells.items)) },
     ghost alone: { RunsAlone running (cells_view cells.items) },
     ghost short: { AreShort sent (cells_view cells.items) },

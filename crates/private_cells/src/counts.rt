@@ -8,21 +8,21 @@ use std::collections::HashMap;
 
 // An agent, and the session from which something was sent to it.
 #[derive(Clone, Copy, Debug, PartialEq, Eq, Hash)]
-pub(crate) struct Sender {
+pub(crate) struct AgentSender {
     pub(crate) agent: u64,
     pub(crate) session: Option<u64>,
 }
 
 #[derive(Drop)]
 pub(crate) struct Counts {
-    pub(crate) counts: HashMap<Sender, u64>,
+    pub(crate) counts: HashMap<AgentSender, u64>,
 }
 
 impl Counts {
     ghost use Rattle.private_cells.specs.Inside.Counted.{count_of};
 
     pub(crate) fn new(alloc: Global) -> Counts
-        ensures { (q : Sender) → count_of result q ≡ 0 }
+        ensures { (q : AgentSender) → count_of result q ≡ 0 }
     {
         Counts {
             counts: HashMap::new(alloc),
@@ -33,12 +33,12 @@ impl Counts {
     pub(crate) fn reserve(&mut self, more: usize) -> Result<(), AllocError>
         ensures room { OnOk result (more ≤ spare self.new.counts) }
         ensures grows { spare self.old.counts ≤ spare self.new.counts }
-        ensures same { (q : Sender) → count_of self.new q ≡ count_of self.old q }
+        ensures same { (q : AgentSender) → count_of self.new q ≡ count_of self.old q }
     {
         self.counts.reserve(more)
     }
 
-    pub(crate) fn count(&self, sender: Sender) -> u64
+    pub(crate) fn count(&self, sender: AgentSender) -> u64
         ensures { result ≡ count_of self.now sender }
     {
         match self.counts.get(&sender) {
@@ -48,10 +48,10 @@ impl Counts {
     }
 
     // One more waits.
-    pub(crate) fn add(&mut self, sender: Sender)
+    pub(crate) fn add(&mut self, sender: AgentSender)
         requires room { 0 < spare self.old.counts }
         requires fits { count_of self.old sender + 1 < 2 ^ 64 }
-        ensures added { (q : Sender) → count_of self.new q
+        ensures added { (q : AgentSender) → count_of self.new q
             ≡ (if same_sender sender q then count_of self.old q + 1 else count_of self.old q) }
         ensures room { spare self.old.counts ≤ spare self.new.counts + 1 }
     {
@@ -62,9 +62,9 @@ impl Counts {
     }
 
     // One of those that wait does so no more.
-    pub(crate) fn remove(&mut self, sender: Sender)
+    pub(crate) fn remove(&mut self, sender: AgentSender)
         requires { 0 < count_of self.old sender }
-        ensures removed { (q : Sender) → count_of self.new q
+        ensures removed { (q : AgentSender) → count_of self.new q
             ≡ (if same_sender sender q then count_of self.old q - 1 else count_of self.old q) }
         ensures room { spare self.old.counts ≤ spare self.new.counts }
     {

@@ -6,7 +6,7 @@ ghost use Rattle.private_cells.specs.Inside.View.{agents_view};
 
 use crate::agents::Agents;
 use crate::awaiting::Await;
-use crate::counts::Sender;
+use crate::counts::AgentSender;
 
 impl Agents {
     /// What comes of an await of these agents by a session, or by a bare request where there is
@@ -44,7 +44,7 @@ impl Agents {
         let Some(cell) = self.cells.get(number as usize) else {
             return false;
         };
-        let sender = Sender {
+        let sender = AgentSender {
             agent: number,
             session,
         };

@@ -9,7 +9,7 @@ ghost use Rattle.private_cells.specs.Inside.View.{agents_view, room_of};
 
 use crate::action::Sent;
 use crate::agents::Agents;
-use crate::counts::Sender;
+use crate::counts::AgentSender;
 use crate::listed::{begin_at, fail_at, finish_at, restart_at};
 use repl_values::{Fault, Value};
 
@@ -64,7 +64,7 @@ impl Agents {
         let Some(session) = begin_at(&mut self.cells, number, first) else {
             unreachable!();
         };
-        self.counts.remove(Sender {
+        self.counts.remove(AgentSender {
             agent: number,
             session,
         });

@@ -6,7 +6,7 @@ ghost use Rattle.private_cells.specs.Inside.View.{agents_view, room_of};
 
 use crate::action::{Action, Sent};
 use crate::agents::Agents;
-use crate::counts::Sender;
+use crate::counts::AgentSender;
 use crate::listed::wait_at;
 
 impl Agents {
@@ -29,7 +29,7 @@ impl Agents {
             drop(nodes);
             return;
         }
-        self.counts.add(Sender {
+        self.counts.add(AgentSender {
             agent: number,
             session,
         });

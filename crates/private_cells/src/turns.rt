@@ -2,7 +2,8 @@
 ghost use Rattle.std.specs.Prelude.{◌≡◌, ℕ, ◌+◌, ◌<◌, ◌≤◌, [], OnOk, IfSome, IfNone, option_map};
 ghost use Rattle.std.specs.BinaryHeap.{IsHeap, IsHeap-prop, heap_items, heap_len, heap_capacity};
 ghost use Rattle.private_cells.specs.Agents.{ActionTurn};
-ghost use Rattle.private_cells.specs.Inside.Turns.{least_last, heap_sum, turn_at, weight, IsFirst};
+ghost use Rattle.private_cells.specs.Inside.Turns.{least_last, heap_sum, turn_at, turn_weight};
+ghost use Rattle.private_cells.specs.Inside.Turns.{IsFirst};
 ghost use Rattle.private_cells.specs.Inside.Turns.{IsThere};
 
 use std::alloc::{AllocError, Global};
@@ -50,7 +51,7 @@ impl Turns {
     pub(crate) fn open(&mut self, number: Option<u128>, agent: u64)
         requires { IfSome number (λ _. heap_len self.old.heap < heap_capacity self.old.heap) }
         ensures opened { (f : ActionTurn → ℕ) → heap_sum f (heap_items self.new.heap)
-            ≡ weight f (option_map (turn_at agent) number)
+            ≡ turn_weight f (option_map (turn_at agent) number)
             + heap_sum f (heap_items self.old.heap) }
         ensures room { heap_capacity self.old.heap ≤ heap_capacity self.new.heap }
     {

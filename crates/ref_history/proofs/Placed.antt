@@ -6,7 +6,7 @@ use Rattle.std.proofs.lemmas.Bool.{cases_eq}
 use Rattle.slab.specs.Slab.{Slab, get, with_value, Updates}
 use Rattle.slab.proofs.SlabLemmas.{Updates-with_value}
 use Rattle.ref_history.specs.Versioned.{Ref}
-use Rattle.ref_history.specs.Changes.{Standing, IsAbsent, SameRefs, SameBut, Changed}
+use Rattle.ref_history.specs.Changes.{RefsById, IsAbsent, SameRefs, SameBut, Changed}
 use Rattle.ref_history.specs.Kept.{KeptStands}
 use Rattle.ref_history.specs.declared.kept_ref.KeptRef.{KeptRef}
 use Rattle.ref_history.specs.declared.ref_id.RefId.{RefId}
@@ -15,7 +15,7 @@ use Rattle.ref_history.proofs.Standing.{some-ref, some-same}
 abbrev pub Places : Type 0
 Places = Slab KeptRef
 
-abbrev pub stands_in : Places → Standing
+abbrev pub stands_in : Places → RefsById
 stands_in places id r = (k : KeptRef) × (get places id.place ≡ Some k) × KeptStands k r
 
 -- where something is kept, it stands for some ref

@@ -12,7 +12,7 @@ use Rattle.version_rings.specs.Versions.{is_kept, pushed}
 use Rattle.version_rings.specs.Versions as ring
 use Rattle.std.proofs.Common.{Result, Ok, Err, IsOk, OnOk, OnErr, ◌&&◌}
 use Rattle.std.specs.Result.{is_err}
-use Rattle.version_rings.specs.Rings.{Rings, versions, SameBut, NodesAfter}
+use Rattle.version_rings.specs.Rings.{Rings, versions, SameOtherRings, NodesAfter}
 use Rattle.version_rings.specs.declared.node.RingId.{RingId}
 use Rattle.value_data.specs.Datum.{Datum}
 use Rattle.std.proofs.Common.{leb, is_some, option_map}
@@ -20,7 +20,7 @@ use Rattle.ref_history.specs.Versioned.{at_point, readable}
 use Rattle.ref_history.specs.Versioned.{Ref, grows, with_version, Version}
 use Rattle.ref_history.specs.Changes.{IsAbsent, SameRefs, Changed}
 use Rattle.ref_history.specs.Changes as change
-use Rattle.ref_history.specs.Rung.{RingKept, Kept, ref_at, ref_in, StandsIn, versions_of}
+use Rattle.ref_history.specs.Rung.{RingKept, RingRefs, ref_at, ring_ref_in, StandsIn, versions_of}
 use Rattle.ref_history.specs.Rung.{version_in}
 use Rattle.ref_history.specs.Rung.{ring_number, room_for, reserved_in}
 use Rattle.ref_history.specs.declared.ref_id.RefId.{RefId}
@@ -49,8 +49,8 @@ some-ref-in (v ∷ vs) k kept = (
 )
 
 -- what was found is there
-pub found-there : (rings : Rings) (refs : Kept) (id : RefId) (k : RingRef)
-    → Some k ≡ ref_in rings refs id
+pub found-there : (rings : Rings) (refs : RingRefs) (id : RefId) (k : RingRef)
+    → Some k ≡ ring_ref_in rings refs id
     → (is_kept (versions_of rings id) ≡ true) × (ref_at refs id.place ≡ Some k)
 found-there rings refs id k e = of (is_kept (versions_of rings id)) refl
   where
@@ -62,15 +62,15 @@ found-there rings refs id k e = of (is_kept (versions_of rings id)) refl
         e ∙ ap (λ b. cond b (ref_at refs id.place) None) is in
         cc wrong
 
-pub not-absent-in : (rings : Rings) (refs : Kept) (id : RefId) (k : RingRef)
-    → Some k ≡ ref_in rings refs id → IsAbsent (StandsIn rings refs) id → ⊥
+pub not-absent-in : (rings : Rings) (refs : RingRefs) (id : RefId) (k : RingRef)
+    → Some k ≡ ring_ref_in rings refs id → IsAbsent (StandsIn rings refs) id → ⊥
 not-absent-in rings refs id k e none =
     let there = found-there rings refs id k e in
     let seen = some-ref-in (versions_of rings id) k there.0 in
     none seen.0 (k, there.1, seen.1)
 
-pub stands-for : (rings : Rings) (refs : Kept) (id : RefId) (k : RingRef) (r : Ref)
-    → Some k ≡ ref_in rings refs id → StandsIn rings refs id r
+pub stands-for : (rings : Rings) (refs : RingRefs) (id : RefId) (k : RingRef) (r : Ref)
+    → Some k ≡ ring_ref_in rings refs id → StandsIn rings refs id r
     → RingKept (versions_of rings id) k r
 stands-for rings refs id k r e s =
     subst (λ (k : RingRef). RingKept (versions_of rings id) k r)
@@ -81,7 +81,7 @@ stands-for rings refs id k r e s =
 pub other-place : (id other : RefId) → other ≢ id → other.place ≢ id.place
 other-place id other differ same = differ (ap (λ (n : ℕ). record { place = n }) same)
 
-pub same-others : (before after : Rings) (old new : Kept) (id : RefId)
+pub same-others : (before after : Rings) (old new : RingRefs) (id : RefId)
     → ((other : RefId) → other ≢ id → versions_of after other ≡ versions_of before other)
     → ((n : ℕ) → n ≢ id.place → ref_at new n ≡ ref_at old n)
     → change.SameBut id (StandsIn before old) (StandsIn after new)
@@ -92,9 +92,9 @@ same-others before after old new id lists refs other differ r =
       λ s. (s.0, sym kept ∙ s.1, subst (λ (l : List ring.Version). RingKept l s.0 r) vs s.2),
     )
 
-pub changed-in : (before after : Rings) (old new : Kept) (id : RefId) (k to : RingRef)
+pub changed-in : (before after : Rings) (old new : RingRefs) (id : RefId) (k to : RingRef)
     (f : Ref → Ref)
-    → Some k ≡ ref_in before old id → ref_at new id.place ≡ Some to
+    → Some k ≡ ring_ref_in before old id → ref_at new id.place ≡ Some to
     → ((other : RefId) → other ≢ id → versions_of after other ≡ versions_of before other)
     → ((n : ℕ) → n ≢ id.place → ref_at new n ≡ ref_at old n)
     → ((r : Ref) → RingKept (versions_of before id) k r → RingKept (versions_of after id) to (f r))
@@ -105,8 +105,8 @@ changed-in before after old new id k to f found put lists refs becomes = record 
   others = same-others before after old new id lists refs;
 }
 
-pub same-in : (before after : Rings) (old new : Kept) (id : RefId) (k to : RingRef)
-    → Some k ≡ ref_in before old id → ref_at new id.place ≡ Some to
+pub same-in : (before after : Rings) (old new : RingRefs) (id : RefId) (k to : RingRef)
+    → Some k ≡ ring_ref_in before old id → ref_at new id.place ≡ Some to
     → ((other : RefId) → versions_of after other ≡ versions_of before other)
     → ((n : ℕ) → n ≢ id.place → ref_at new n ≡ ref_at old n)
     → to.is_faulted ≡ k.is_faulted → to.bounds ≡ k.bounds
@@ -158,7 +158,7 @@ same-in before after old new id k to found put lists refs faults bounds other r 
 
 -- The list of what is kept
 
-pub in-kept : (refs : Kept) (n : ℕ) (k : RingRef) → ref_at refs n ≡ Some k → n < length refs
+pub in-kept : (refs : RingRefs) (n : ℕ) (k : RingRef) → ref_at refs n ≡ Some k → n < length refs
 in-kept [] n k there = absurd cc
 in-kept (x ∷ xs) zero k there = omega arith
 in-kept (x ∷ xs) (suc n) k there = omega (arith, in-kept xs n k there)
@@ -169,7 +169,7 @@ swapped a b c d e h = omega arith
 first-swapped : (x y t : ℕ) → (y + t) + x ≡ (x + t) + y
 first-swapped x y t = omega arith
 
-set-reserved : (refs : Kept) (n : ℕ) (to : Option RingRef) → n < length refs
+set-reserved : (refs : RingRefs) (n : ℕ) (to : Option RingRef) → n < length refs
     → reserved_in (slice_set refs n to) + room_for (ref_at refs n)
     ≡ reserved_in refs + room_for to
 set-reserved [] n to within = absurd (omega arith)
@@ -179,29 +179,29 @@ set-reserved (x ∷ xs) (suc n) to within =
     swapped (reserved_in (slice_set xs n to)) (room_for (ref_at xs n)) (reserved_in xs)
     (room_for to) (room_for x) (set-reserved xs n to (omega (arith, within)))
 
-pub reserved-set : (refs after : Kept) (n : ℕ) (to : Option RingRef) → after ≡ slice_set refs n to
+pub reserved-set : (refs after : RingRefs) (n : ℕ) (to : Option RingRef) → after ≡ slice_set refs n to
     → n < length refs → reserved_in after + room_for (ref_at refs n) ≡ reserved_in refs + room_for to
 reserved-set refs after n to put within =
-    ap (λ (xs : Kept). reserved_in xs + room_for (ref_at refs n)) put ∙ set-reserved refs n to within
+    ap (λ (xs : RingRefs). reserved_in xs + room_for (ref_at refs n)) put ∙ set-reserved refs n to within
 
-pub set-here : (refs after : Kept) (n : ℕ) (k : RingRef) (to : Option RingRef)
+pub set-here : (refs after : RingRefs) (n : ℕ) (k : RingRef) (to : Option RingRef)
     → after ≡ slice_set refs n to → ref_at refs n ≡ Some k → ref_at after n ≡ to
 set-here refs after n k to put there =
-    ap (λ (xs : Kept). ref_at xs n) put
+    ap (λ (xs : RingRefs). ref_at xs n) put
     ∙ get_or-set_same refs n to None (in-kept refs n k there)
 
-pub set-others : (refs after : Kept) (n : ℕ) (to : Option RingRef) → after ≡ slice_set refs n to
+pub set-others : (refs after : RingRefs) (n : ℕ) (to : Option RingRef) → after ≡ slice_set refs n to
     → (m : ℕ) → m ≢ n → ref_at after m ≡ ref_at refs m
 set-others refs after n to put m differ =
-    ap (λ (xs : Kept). ref_at xs m) put ∙ get_or-set_other refs n m to None differ
+    ap (λ (xs : RingRefs). ref_at xs m) put ∙ get_or-set_other refs n m to None differ
 
-pub pushed-none : (refs : Kept) (n : ℕ) → ref_at (refs ++ None ∷ []) n ≡ ref_at refs n
+pub pushed-none : (refs : RingRefs) (n : ℕ) → ref_at (refs ++ None ∷ []) n ≡ ref_at refs n
 pushed-none [] zero = refl
 pushed-none [] (suc n) = refl
 pushed-none (x ∷ xs) zero = refl
 pushed-none (x ∷ xs) (suc n) = pushed-none xs n
 
-pub reserved-none : (refs : Kept) → reserved_in (refs ++ None ∷ []) ≡ reserved_in refs
+pub reserved-none : (refs : RingRefs) → reserved_in (refs ++ None ∷ []) ≡ reserved_in refs
 reserved-none [] = refl
 reserved-none (x ∷ xs) = ap (λ n. room_for x + n) (reserved-none xs)
 
@@ -263,7 +263,7 @@ not-ring id other found is differ e =
 
 -- a ring that was made and released again
 pub back-again : (a b d : Rings) (found : RingId) → versions a found ≡ [] → versions d found ≡ []
-    → SameBut found a b → SameBut found b d → (other : RingId) → versions d other ≡ versions a other
+    → SameOtherRings found a b → SameOtherRings found b d → (other : RingId) → versions d other ≡ versions a other
 back-again a b d found new gone first second other = elim (cases_eq other.place found.place) [
   | inl same ↦
       let e : other ≡ found = ap (λ (n : ℕ). let x : RingId = record { place = n } in x) same in
@@ -273,7 +273,7 @@ back-again a b d found new gone first second other = elim (cases_eq other.place 
       second other not ∙ first other not
 ]
 
-pub same-all : (before after : Rings) (old new : Kept)
+pub same-all : (before after : Rings) (old new : RingRefs)
     → ((other : RefId) → versions_of after other ≡ versions_of before other)
     → ((n : ℕ) → ref_at new n ≡ ref_at old n)
     → SameRefs (StandsIn before old) (StandsIn after new)
@@ -290,7 +290,7 @@ same-all before after old new lists refs id r = (
   ),
 )
 
-pub all-refs : (old new : Kept) (n : ℕ) → ref_at new n ≡ ref_at old n
+pub all-refs : (old new : RingRefs) (n : ℕ) → ref_at new n ≡ ref_at old n
     → ((m : ℕ) → m ≢ n → ref_at new m ≡ ref_at old m) → (m : ℕ) → ref_at new m ≡ ref_at old m
 all-refs old new n here others m = elim (cases_eq m n) [
   | inl same ↦ ap (ref_at new) same ∙ here ∙ sym (ap (ref_at old) same)
@@ -311,8 +311,8 @@ room-same true kept old new is n = cc is
 room-same false true old new is n = n.room
 room-same false false old new is n = n.room
 
-pub some-not-absent : (rings : Rings) (refs : Kept) (id : RefId) (found : Option RingRef)
-    → is_some found ≡ true → found ≡ ref_in rings refs id → IsAbsent (StandsIn rings refs) id → ⊥
+pub some-not-absent : (rings : Rings) (refs : RingRefs) (id : RefId) (found : Option RingRef)
+    → is_some found ≡ true → found ≡ ring_ref_in rings refs id → IsAbsent (StandsIn rings refs) id → ⊥
 some-not-absent rings refs id None some e none = cc some
 some-not-absent rings refs id (Some k) some e none = not-absent-in rings refs id k e none
 

@@ -28,17 +28,17 @@ abbrev pub versions_of : Rings → RefId → List ring.Version
 versions_of rings id = versions rings (ring_number id)
 
 -- what is kept beside the versions, under each number
-abbrev pub Kept : Type 0
-Kept = List (Option RingRef)
+abbrev pub RingRefs : Type 0
+RingRefs = List (Option RingRef)
 
-abbrev pub ref_at : Kept → ℕ → Option RingRef
+abbrev pub ref_at : RingRefs → ℕ → Option RingRef
 ref_at refs n = slice_index_or refs n None
 
 -- the same, where there are versions
-abbrev pub ref_in : Rings → Kept → RefId → Option RingRef
-ref_in rings refs id = if is_kept (versions_of rings id) then ref_at refs id.place else None
+abbrev pub ring_ref_in : Rings → RingRefs → RefId → Option RingRef
+ring_ref_in rings refs id = if is_kept (versions_of rings id) then ref_at refs id.place else None
 
-abbrev pub StandsIn : Rings → Kept → RefId → Ref → Type 0
+abbrev pub StandsIn : Rings → RingRefs → RefId → Ref → Type 0
 StandsIn rings refs id r =
     (k : RingRef) × (ref_at refs id.place ≡ Some k) × RingKept (versions_of rings id) k r
 
@@ -47,12 +47,12 @@ abbrev pub room_for : Option RingRef → ℕ
 room_for None = 0
 room_for (Some k) = if k.has_room then 1 else 0
 
-abbrev pub reserved_in : Kept → ℕ
+abbrev pub reserved_in : RingRefs → ℕ
 reserved_in [] = 0
 reserved_in (k ∷ ks) = room_for k + reserved_in ks
 
 -- where the next version is kept beside all others, there is room for it, and for each other
-abbrev pub HasRoomIn : Rings → Kept → RefId → Type 0
+abbrev pub HasRoomIn : Rings → RingRefs → RefId → Type 0
 HasRoomIn rings refs id = (k : RingRef) (r : Ref) → ref_at refs id.place ≡ Some k
     → RingKept (versions_of rings id) k r → IsTrue (grows r)
     → (k.has_room ≡ true) × (reserved_in refs ≤ rings.room)

@@ -28,7 +28,7 @@ impl RingHistory {
     ghost use Rattle.ref_history.specs.Versioned.{Ref, grows};
     ghost use Rattle.ref_history.specs.Changes.{IsAbsent};
     ghost use Rattle.ref_history.specs.RingHistories.{RingStands};
-    ghost use Rattle.ref_history.specs.Rung.{ref_in, RingKept, versions_of, room_for};
+    ghost use Rattle.ref_history.specs.Rung.{ring_ref_in, RingKept, versions_of, room_for};
     ghost use Rattle.ref_history.specs.declared.ref_id.RefId.{RefId};
 
     /// A history without refs. It takes no memory.
@@ -43,7 +43,7 @@ impl RingHistory {
     }
 
     fn kept(&self, id: RefId) -> Option<RingRef>
-        ensures { result ≡ ref_in self.now.rings self.now.refs.items id }
+        ensures { result ≡ ring_ref_in self.now.rings self.now.refs.items id }
     {
         if !self.rings.is_live(ring_of(id)) {
             return None;

@@ -9,9 +9,9 @@ use Rattle.ref_table.specs.Commit.{with_changes, with_raised_counter}
 use Rattle.ref_history.specs.Changes.{Changed}
 use Rattle.ref_history.specs.Effects.{version}
 use Rattle.ref_history.specs.declared.ref_id.RefId.{RefId}
-use Rattle.ref_table.specs.Refs.{Refs, refs_after}
+use Rattle.ref_table.specs.Refs.{TableRefs, refs_after}
 use Rattle.ref_table.specs.Directory.{id_named}
-use Rattle.ref_table.specs.Placing.{placed_view, with_place, places_of, AddsAll}
+use Rattle.ref_table.specs.Placing.{placed_view, with_place, placed_changes, AddsAll}
 use Rattle.ref_table.specs.Standing.{TableStands}
 use Rattle.ref_table.specs.declared.placing.Placed.{Placed}
 use Rattle.ref_table.specs.declared.table.RefTable.{RefTable}
@@ -20,8 +20,8 @@ use Rattle.ref_table.proofs.Tables.{with_changed_ref-stands, unseen-stands}
 
 -- what is added at the places of these changes
 abbrev pub Leads : {H : Type 0} → (H → RefId → Ref → Type 0) → ℕ → List ChangeData → Type 0
-Leads {H} stands stamp cs = (t : RefTable H) (h : H) (ps : List Placed) (s : Store) (r : Refs)
-    → map placed_view ps ≡ places_of t.directory s.tenant cs
+Leads {H} stands stamp cs = (t : RefTable H) (h : H) (ps : List Placed) (s : Store) (r : TableRefs)
+    → map placed_view ps ≡ placed_changes t.directory s.tenant cs
     → AddsAll stands stamp t.history ps h → TableStands stands t (refs_after s r)
     → TableStands stands (record t { history = h }) (refs_after (with_changes stamp cs s) r)
 
@@ -46,21 +46,21 @@ nothing-added stands stamp t h (p ∷ ps) s r e adds now = cc
 
 one-added : {H : Type 0} (stands : H → RefId → Ref → Type 0) (stamp : ℕ) (c : ChangeData)
     (cs : List ChangeData) → Leads stands stamp cs → (o : Option RefId)
-    (t : RefTable H) (h : H) (ps : List Placed) (s : Store) (r : Refs)
+    (t : RefTable H) (h : H) (ps : List Placed) (s : Store) (r : TableRefs)
     → id_named t.directory s.tenant c.name ≡ o
-    → map placed_view ps ≡ with_place o c.now (places_of t.directory s.tenant cs)
+    → map placed_view ps ≡ with_place o c.now (placed_changes t.directory s.tenant cs)
     → AddsAll stands stamp t.history ps h → TableStands stands t (refs_after s r)
     → TableStands stands (record t { history = h }) (refs_after (with_changes stamp (c ∷ cs) s) r)
 one-added stands stamp c cs leads None t h ps s r here e adds now =
     leads t h ps (one_set stamp c s) r
-    (e ∙ ap (λ v. places_of t.directory v cs) (sym (tenant-stays stamp c s))) adds
+    (e ∙ ap (λ v. placed_changes t.directory v cs) (sym (tenant-stays stamp c s))) adds
     (unseen-stands stands t s r c.name (with_version (version stamp c.now)) here now)
 one-added stands stamp c cs leads (Some id) t h [] s r here e adds now = cc
 one-added stands stamp c cs leads (Some id) t h (p ∷ ps) s r here e adds now =
     let same = same_pair (placed_view p) (id, c.now) (map placed_view ps)
-    (places_of t.directory s.tenant cs) e in
+    (placed_changes t.directory s.tenant cs) e in
     leads (record t { history = adds.0 }) h ps (one_set stamp c s) r
-    (same.2 ∙ ap (λ v. places_of t.directory v cs) (sym (tenant-stays stamp c s))) adds.2
+    (same.2 ∙ ap (λ v. placed_changes t.directory v cs) (sym (tenant-stays stamp c s))) adds.2
     (with_changed_ref-stands stands t adds.0 s r c.name id (with_version (version stamp c.now)) here
     (subst (λ i. Changed i (with_version (version stamp c.now)) (stands t.history) (stands adds.0))
     same.0
@@ -77,7 +77,7 @@ all-added stands stamp (c ∷ cs) = λ t h ps s r e adds now.
 
 -- the counter rises
 pub with_raised_counter-stands : {H : Type 0} (stands : H → RefId → Ref → Type 0) (t : RefTable H) (s : Store)
-    (r : Refs) → TableStands stands t (refs_after s r)
+    (r : TableRefs) → TableStands stands t (refs_after s r)
     → TableStands stands (record t { counter = t.counter + 1 }) (refs_after (with_raised_counter s) r)
 with_raised_counter-stands stands t s r now = record {
   counter = ap (λ n. n + 1) now.counter;

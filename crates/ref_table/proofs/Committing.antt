@@ -20,9 +20,9 @@ use Rattle.ref_table.specs.Commit.{all_take, refs_are_distinct, intent_fits, is_
 use Rattle.ref_table.specs.Commit.{all_folded, with_changes, with_raised_counter, with_all}
 use Rattle.ref_table.specs.Commit.{concluded_commit, checked_commit, commit_by}
 use Rattle.ref_history.specs.declared.ref_id.RefId.{RefId}
-use Rattle.ref_table.specs.Refs.{Refs, store_of, refs_after}
+use Rattle.ref_table.specs.Refs.{TableRefs, store_of, refs_after}
 use Rattle.ref_table.specs.Directory.{id_named, all_named, ids_named}
-use Rattle.ref_table.specs.Placing.{with_place, places_of, all_distinct}
+use Rattle.ref_table.specs.Placing.{with_place, placed_changes, all_distinct}
 use Rattle.ref_table.specs.Accepting.{may_commit, is_acceptable}
 use Rattle.ref_table.specs.Standing.{TableStands}
 use Rattle.ref_table.specs.Told.{Performs}
@@ -110,7 +110,7 @@ changing_refs-named d caller intent e =
     named-append d caller sets commuted ∙ ap₂ ◌&&◌ first.0 all.1
 
 -- what was looked through is what the rules want
-pub acceptable : {H : Type 0} (stands : H → RefId → Ref → Type 0) (t : RefTable H) (r : Refs)
+pub acceptable : {H : Type 0} (stands : H → RefId → Ref → Type 0) (t : RefTable H) (r : TableRefs)
     (caller : ℕ) (points : List (Entry ℕ)) (intent : IntentData) → TableStands stands t r
     → is_acceptable t.directory caller intent
     ≡ (all_there (touched_refs intent) (store_of caller points r) && intent_fits intent)
@@ -160,7 +160,7 @@ accepted d caller intent e =
 -- The commit, by what was found out
 
 pub checked_commit-performs : {H : Type 0} (stands : H → RefId → Ref → Type 0) (new : RefTable H)
-    (r : Refs) (caller : ℕ) (points : List (Entry ℕ)) (seat point : ℕ) (intent : IntentData)
+    (r : TableRefs) (caller : ℕ) (points : List (Entry ℕ)) (seat point : ℕ) (intent : IntentData)
     (o : Option ℕ) (answer : Option AnswerData) (fit newer : Bool) → o ≡ Some point
     → fit ≡ (all_there (touched_refs intent) (store_of caller points r) && intent_fits intent)
     → newer ≡ any_newer point (guarded_refs intent) (store_of caller points r)
@@ -173,7 +173,7 @@ checked_commit-performs stands new r caller points seat point intent o answer fi
 
 -- where a commit changes nothing
 pub unchanged-performs : {H : Type 0} (stands : H → RefId → Ref → Type 0) (t : RefTable H)
-    (r : Refs) (caller : ℕ) (points : List (Entry ℕ)) (seat : ℕ) (answer : AnswerData)
+    (r : TableRefs) (caller : ℕ) (points : List (Entry ℕ)) (seat : ℕ) (answer : AnswerData)
     → TableStands stands t r
     → Performs stands t r (Some answer)
     (tells answer (left_attempt seat (store_of caller points r)))
@@ -183,7 +183,7 @@ unchanged-performs stands t r caller points seat answer s = record {
 }
 
 pub refused-performs : {H : Type 0} (stands : H → RefId → Ref → Type 0) (t : RefTable H)
-    (r : Refs) (caller : ℕ) (points : List (Entry ℕ)) → TableStands stands t r
+    (r : TableRefs) (caller : ℕ) (points : List (Entry ℕ)) → TableStands stands t r
     → Performs stands t r None (as_was (store_of caller points r) None)
 refused-performs stands t r caller points s = record {
   told = refl;
@@ -191,7 +191,7 @@ refused-performs stands t r caller points s = record {
 }
 
 pub faulted-performs : {H : Type 0} (stands : H → RefId → Ref → Type 0) (t : RefTable H)
-    (r : Refs) (caller : ℕ) (points : List (Entry ℕ)) (seat : ℕ) (sets : List ChangeData)
+    (r : TableRefs) (caller : ℕ) (points : List (Entry ℕ)) (seat : ℕ) (sets : List ChangeData)
     (f : Failure) (folds : Result (List ChangeData) Failure) → folds ≡ Err f → TableStands stands t r
     → Performs stands t r (Some (verdict (faulted f)))
     (concluded_commit seat sets (store_of caller points r) folds)
@@ -201,7 +201,7 @@ faulted-performs stands t r caller points seat sets f folds is s =
     (unchanged-performs stands t r caller points seat (verdict (faulted f)) s)
 
 pub committed-performs : {H : Type 0} (stands : H → RefId → Ref → Type 0) (new : RefTable H)
-    (r : Refs) (caller : ℕ) (points : List (Entry ℕ)) (seat : ℕ) (sets changes : List ChangeData)
+    (r : TableRefs) (caller : ℕ) (points : List (Entry ℕ)) (seat : ℕ) (sets changes : List ChangeData)
     (folds : Result (List ChangeData) Failure) → folds ≡ Ok changes
     → TableStands stands new (refs_after (with_all (sets ++ changes) (store_of caller points r)) r)
     → Performs stands new r (Some (verdict committed))
@@ -230,13 +230,13 @@ failed-first (Ok x) f e is = cc
 
 -- where refs that are there change, there are places
 pub no-places : (d : Directory) (caller : ℕ) (cs : List ChangeData)
-    → all_named d caller (map (λ c. c.name) cs) ≡ true → [] ≡ places_of d caller cs → cs ≡ []
+    → all_named d caller (map (λ c. c.name) cs) ≡ true → [] ≡ placed_changes d caller cs → cs ≡ []
 no-places d caller [] ref_named none = refl
 no-places d caller (c ∷ cs) ref_named none =
     absurd (by (id_named d caller c.name)
     (both_true (is_some (id_named d caller c.name)) _ ref_named).0 none) where
       by : (o : Option RefId) → is_some o ≡ true
-          → [] ≡ with_place o c.now (places_of d caller cs) → ⊥
+          → [] ≡ with_place o c.now (placed_changes d caller cs) → ⊥
       by None there none = cc
       by (Some id) there none = cc
 

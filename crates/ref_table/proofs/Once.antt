@@ -12,7 +12,7 @@ use Rattle.ref_table.specs.Commit.{refs_are_distinct}
 use Rattle.value_data.specs.Same.{same_owner}
 use Rattle.ref_history.specs.declared.ref_id.RefId.{RefId}
 use Rattle.ref_table.specs.Directory.{refs_of, id_named, all_named, with_id, ids_named}
-use Rattle.ref_table.specs.Placing.{placed_view, with_place, places_of, all_distinct}
+use Rattle.ref_table.specs.Placing.{placed_view, with_place, placed_changes, all_distinct}
 use Rattle.ref_table.specs.Standing.{AreApart}
 use Rattle.ref_table.specs.declared.directory.Directory.{Directory}
 use Rattle.ref_table.specs.declared.placing.Placed.{Placed}
@@ -97,10 +97,10 @@ distinct-ids d caller (name ∷ names) apart named =
 
 -- the ids at the places of changes
 pub places-ids : (d : Directory) (caller : ℕ) (cs : List ChangeData)
-    → map (λ q. q.0) (places_of d caller cs) ≡ ids_named d caller (map (λ c. c.name) cs)
+    → map (λ q. q.0) (placed_changes d caller cs) ≡ ids_named d caller (map (λ c. c.name) cs)
 places-ids d caller [] = refl
 places-ids d caller (c ∷ cs) =
-    by (id_named d caller c.name) (places_of d caller cs)
+    by (id_named d caller c.name) (placed_changes d caller cs)
     ∙ ap (with_id (id_named d caller c.name)) (places-ids d caller cs) where
       by : (o : Option RefId) (rest : List (RefId × Datum))
           → map (λ q. q.0) (with_place o c.now rest) ≡ with_id o (map (λ q. q.0) rest)
@@ -109,11 +109,11 @@ places-ids d caller (c ∷ cs) =
 
 pub places-same : (d : Directory) (caller : ℕ) (xs sets ys folded : List Change)
     (ps : List (RefId × Datum))
-    → ps ≡ places_of d caller (map change_view xs ++ map change_view ys)
+    → ps ≡ placed_changes d caller (map change_view xs ++ map change_view ys)
     → xs ≡ sets → ys ≡ folded
-    → ps ≡ places_of d caller (map change_view sets ++ map change_view folded)
+    → ps ≡ placed_changes d caller (map change_view sets ++ map change_view folded)
 places-same d caller xs sets ys folded ps e same more =
-    e ∙ ap₂ (λ xs ys. places_of d caller (map change_view xs ++ map change_view ys)) same more
+    e ∙ ap₂ (λ xs ys. placed_changes d caller (map change_view xs ++ map change_view ys)) same more
 
 pub placed-ids : (ps : List Placed) → map (λ p. p.id) ps ≡ map (λ q. q.0) (map placed_view ps)
 placed-ids [] = refl
@@ -137,13 +137,13 @@ any_named d caller f xs ys = ap (list_any f) (ids-append d caller xs ys)
     ∙ any-append f (ids_named d caller xs) (ids_named d caller ys)
 
 pub places-append : (d : Directory) (caller : ℕ) (xs ys : List ChangeData)
-    → places_of d caller (xs ++ ys) ≡ places_of d caller xs ++ places_of d caller ys
+    → placed_changes d caller (xs ++ ys) ≡ placed_changes d caller xs ++ placed_changes d caller ys
 places-append d caller [] ys = refl
 places-append d caller (x ∷ xs) ys =
     ap (with_place (id_named d caller x.name) x.now) (places-append d caller xs ys)
     ∙ by (id_named d caller x.name) where
       by : (o : Option RefId)
-          → with_place o x.now (places_of d caller xs ++ places_of d caller ys)
-          ≡ with_place o x.now (places_of d caller xs) ++ places_of d caller ys
+          → with_place o x.now (placed_changes d caller xs ++ placed_changes d caller ys)
+          ≡ with_place o x.now (placed_changes d caller xs) ++ placed_changes d caller ys
       by None = refl
       by (Some id) = refl

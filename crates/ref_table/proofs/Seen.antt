@@ -6,9 +6,9 @@ use Rattle.value_data.specs.Datum.{OwnerData, shared, tenant}
 use Rattle.ref_table.specs.Numbered.{changed_at}
 use Rattle.ref_history.specs.Versioned.{Ref}
 use Rattle.ref_table.specs.Store.{Store, ref_of, changed_of}
-use Rattle.ref_history.specs.Changes.{Standing}
+use Rattle.ref_history.specs.Changes.{RefsById}
 use Rattle.ref_history.specs.declared.ref_id.RefId.{RefId}
-use Rattle.ref_table.specs.Refs.{Refs, owned_with, refs_after}
+use Rattle.ref_table.specs.Refs.{TableRefs, owned_with, refs_after}
 use Rattle.ref_table.specs.Directory.{refs_of, id_within}
 use Rattle.ref_table.specs.Standing.{Matches, StandFor}
 use Rattle.ref_table.specs.declared.directory.Directory.{Directory}
@@ -25,7 +25,7 @@ owned-seen caller owned (tenant t) = elim (cases_Bool (t == caller)) [
 ]
 
 -- the id under which a tenant finds a ref stands for what it sees of it
-pub stands-within : (standing : Standing) (d : Directory) (s : Store) (r : Refs) (w : OwnerData)
+pub stands-within : (standing : RefsById) (d : Directory) (s : Store) (r : TableRefs) (w : OwnerData)
     (n : ℕ) → StandFor standing (refs_of d) (refs_after s r).owned
     → Matches standing (id_within d s.tenant w n) (ref_of w n s)
 stands-within standing d s r shared n h = h shared n
@@ -55,7 +55,7 @@ id-there d caller (tenant t) m id e =
     (found_if (t == caller) (slice_get (refs_of d (tenant t)) m) id e).1
 
 -- a ref that the tenant reaches changes among its owner's
-pub changed-here : (d : Directory) (s : Store) (r : Refs) (w : OwnerData) (m : ℕ) (f : Ref → Ref)
+pub changed-here : (d : Directory) (s : Store) (r : TableRefs) (w : OwnerData) (m : ℕ) (f : Ref → Ref)
     (id : RefId) → id_within d s.tenant w m ≡ Some id
     → (refs_after (changed_of w m f s) r).owned w ≡ changed_at m f ((refs_after s r).owned w)
 changed-here d s r shared m f id e = refl
@@ -68,7 +68,7 @@ changed-here d s r (tenant t) m f id e =
       both false is = cc
 
 -- and nobody else's
-pub changed-elsewhere : (d : Directory) (s : Store) (r : Refs) (w : OwnerData) (m : ℕ)
+pub changed-elsewhere : (d : Directory) (s : Store) (r : TableRefs) (w : OwnerData) (m : ℕ)
     (f : Ref → Ref) (id : RefId) → id_within d s.tenant w m ≡ Some id
     → (o : OwnerData) → o ≢ w → (refs_after (changed_of w m f s) r).owned o ≡ (refs_after s r).owned o
 changed-elsewhere d s r shared m f id e shared differs = absurd (differs refl)
@@ -87,7 +87,7 @@ changed-elsewhere d s r (tenant t) m f id e (tenant u) differs =
       untouched false is = refl
 
 -- a change of a ref that is not seen changes nothing
-pub changed-nowhere : (s : Store) (r : Refs) (w : OwnerData) (m : ℕ) (f : Ref → Ref)
+pub changed-nowhere : (s : Store) (r : TableRefs) (w : OwnerData) (m : ℕ) (f : Ref → Ref)
     → ref_of w m s ≡ None
     → (o : OwnerData) → (refs_after (changed_of w m f s) r).owned o ≡ (refs_after s r).owned o
 changed-nowhere s r shared m f none shared = changed_at-absent m f s.around.refs none

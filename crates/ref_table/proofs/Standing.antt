@@ -5,7 +5,7 @@ use Rattle.std.specs.Prelude.{option_map, ◌⊎◌, ◌↔◌}
 use Rattle.value_data.specs.Datum.{OwnerData}
 use Rattle.ref_history.specs.Versioned.{Ref}
 use Rattle.ref_table.specs.Numbered.{changed_at}
-use Rattle.ref_history.specs.Changes.{Standing, IsAbsent, SameRefs, SameBut, Changed}
+use Rattle.ref_history.specs.Changes.{RefsById, IsAbsent, SameRefs, SameBut, Changed}
 use Rattle.ref_history.specs.declared.ref_id.RefId.{RefId}
 use Rattle.ref_table.specs.Departed.{ids_left}
 use Rattle.ref_table.specs.Directory.{refs_of}
@@ -20,20 +20,20 @@ use Rattle.ref_table.proofs.Owners.{slice_get-added, slice_get-added_other, slic
 use Rattle.ref_table.proofs.Owners.{ids as which, among}
 
 -- the ref for which an id stands is there
-pub there : (standing : Standing) (o : Option RefId) (r : Option Ref) (id : RefId)
+pub there : (standing : RefsById) (o : Option RefId) (r : Option Ref) (id : RefId)
     → Matches standing o r → o ≡ Some id → (ref : Ref) × (r ≡ Some ref) × standing id ref
 there standing None r id h e = absurd (none-some e)
 there standing (Some i) None id h e = absurd h
 there standing (Some i) (Some ref) id h e =
     (ref, refl, subst (λ i. standing i ref) (some-same i id e) h)
 
-pub absent : (standing : Standing) (o : Option RefId) (r : Option Ref)
+pub absent : (standing : RefsById) (o : Option RefId) (r : Option Ref)
     → Matches standing o r → o ≡ None → r ≡ None
 absent standing None None h e = refl
 absent standing None (Some ref) h e = absurd h
 absent standing (Some i) r h e = absurd (none-some (sym e))
 
-kept : (old new : Standing) (o : Option RefId) (r : Option Ref)
+kept : (old new : RefsById) (o : Option RefId) (r : Option Ref)
     → ((id : RefId) (ref : Ref) → o ≡ Some id → old id ref → new id ref)
     → Matches old o r → Matches new o r
 kept old new None None keeps h = tt
@@ -41,7 +41,7 @@ kept old new None (Some ref) keeps h = absurd h
 kept old new (Some id) None keeps h = absurd h
 kept old new (Some id) (Some ref) keeps h = keeps id ref refl h
 
-became : (old new : Standing) (o : Option RefId) (r : Option Ref) (id : RefId) (f : Ref → Ref)
+became : (old new : RefsById) (o : Option RefId) (r : Option Ref) (id : RefId) (f : Ref → Ref)
     → Changed id f old new → o ≡ Some id → Matches old o r → Matches new o (option_map f r)
 became old new None r id f change e h = absurd (none-some e)
 became old new (Some i) None id f change e h = absurd h
@@ -50,20 +50,20 @@ became old new (Some i) (Some ref) id f change e h =
     (change.changed ref (subst (λ i. old i ref) (some-same i id e) h))
 
 -- what all ids stand for stays
-pub stand-same : (old new : Standing) (ids : OwnerData → List RefId) (refs : OwnerData → List Ref)
+pub stand-same : (old new : RefsById) (ids : OwnerData → List RefId) (refs : OwnerData → List Ref)
     → SameRefs old new → StandFor old ids refs → StandFor new ids refs
 stand-same old new ids refs same h o n =
     kept old new (slice_get (ids o) n) (slice_get (refs o) n) (λ id ref e. (same id ref).0) (h o n)
 
 -- the refs are the same, said otherwise
-pub stand-equal : (standing : Standing) (ids : OwnerData → List RefId)
+pub stand-equal : (standing : RefsById) (ids : OwnerData → List RefId)
     (refs later : OwnerData → List Ref) → ((o : OwnerData) → later o ≡ refs o)
     → StandFor standing ids refs → StandFor standing ids later
 stand-equal standing ids refs later same h o n =
     subst (λ l. Matches standing (slice_get (ids o) n) (slice_get l n)) (sym (same o)) (h o n)
 
 -- the ref of one id changes
-pub stand-changed : (old new : Standing) (ids : OwnerData → List RefId)
+pub stand-changed : (old new : RefsById) (ids : OwnerData → List RefId)
     (refs later : OwnerData → List Ref) (w : OwnerData) (m : ℕ) (id : RefId) (f : Ref → Ref)
     → slice_get (ids w) m ≡ Some id → AreApart ids → Changed id f old new
     → later w ≡ changed_at m f (refs w) → ((o : OwnerData) → o ≢ w → later o ≡ refs o)
@@ -105,7 +105,7 @@ owned-apart d gone apart o p n m i e f =
     (owner-same o p both.0, both.1)
 
 -- an owner's ids are as many as its refs
-pub lengths : (standing : Standing) (ids : List RefId) (refs : List Ref)
+pub lengths : (standing : RefsById) (ids : List RefId) (refs : List Ref)
     → ((n : ℕ) → Matches standing (slice_get ids n) (slice_get refs n))
     → length ids ≡ length refs
 lengths standing [] [] h = refl
@@ -114,7 +114,7 @@ lengths standing (i ∷ ids) [] h = absurd (h 0)
 lengths standing (i ∷ ids) (r ∷ refs) h = ap suc (lengths standing ids refs (λ n. h (suc n)))
 
 -- an id that stands for nothing is no ref's
-pub fresh : (standing : Standing) (ids : OwnerData → List RefId) (refs : OwnerData → List Ref)
+pub fresh : (standing : RefsById) (ids : OwnerData → List RefId) (refs : OwnerData → List Ref)
     (id : RefId) → IsAbsent standing id → StandFor standing ids refs
     → (o : OwnerData) (n : ℕ) → slice_get (ids o) n ≢ Some id
 fresh standing ids refs id none h o n e =
@@ -122,7 +122,7 @@ fresh standing ids refs id none h o n e =
     none found.0 found.2
 
 -- an owner has one ref more
-pub stand-made : (old new : Standing) (ids more : OwnerData → List RefId)
+pub stand-made : (old new : RefsById) (ids more : OwnerData → List RefId)
     (refs later : OwnerData → List Ref) (w : OwnerData) (id : RefId) (ref : Ref)
     → more w ≡ ids w ++ id ∷ [] → ((o : OwnerData) → o ≢ w → more o ≡ ids o)
     → later w ≡ refs w ++ ref ∷ [] → ((o : OwnerData) → o ≢ w → later o ≡ refs o)
@@ -205,7 +205,7 @@ apart-made ids more w id adds rest new apart o p n m i e f =
       ]
 
 -- an owner's refs are dropped
-pub stand-released : (old new : Standing) (ids fewer : OwnerData → List RefId)
+pub stand-released : (old new : RefsById) (ids fewer : OwnerData → List RefId)
     (refs later : OwnerData → List Ref) (w : OwnerData)
     → fewer w ≡ [] → ((o : OwnerData) → o ≢ w → fewer o ≡ ids o)
     → later w ≡ [] → ((o : OwnerData) → o ≢ w → later o ≡ refs o)
@@ -240,11 +240,11 @@ apart-released ids fewer w gone rest apart o p n m i e f =
 
 -- Nothing else is kept
 
-pub no_more-same : (old new : Standing) (ids : Holder → List RefId) → SameRefs old new
+pub no_more-same : (old new : RefsById) (ids : Holder → List RefId) → SameRefs old new
     → KeepsNoMore old ids → KeepsNoMore new ids
 no_more-same old new ids same keeps id r h = keeps id r ((same id r).1 h)
 
-pub no_more-changed : (old new : Standing) (ids : Holder → List RefId) (w : Holder) (m : ℕ)
+pub no_more-changed : (old new : RefsById) (ids : Holder → List RefId) (w : Holder) (m : ℕ)
     (id : RefId) → slice_get (ids w) m ≡ Some id → SameBut id old new
     → KeepsNoMore old ids → KeepsNoMore new ids
 no_more-changed old new ids w m id here same keeps i r h = elim (which i id) [
@@ -252,7 +252,7 @@ no_more-changed old new ids w m id here same keeps i r h = elim (which i id) [
   | inr differs ↦ keeps i r ((same i differs r).1 h)
 ]
 
-pub no_more-made : (old new : Standing) (ids more : Holder → List RefId) (w : Holder)
+pub no_more-made : (old new : RefsById) (ids more : Holder → List RefId) (w : Holder)
     (id : RefId) → more w ≡ ids w ++ id ∷ [] → ((o : Holder) → o ≢ w → more o ≡ ids o)
     → SameBut id old new → KeepsNoMore old ids → KeepsNoMore new more
 no_more-made old new ids more w id adds rest same keeps i r h = elim (which i id) [
@@ -277,7 +277,7 @@ no_more-made old new ids more w id adds rest same keeps i r h = elim (which i id
     ],
   )
 
-pub no_more-released : (old new : Standing) (ids fewer : Holder → List RefId) (w : Holder)
+pub no_more-released : (old new : RefsById) (ids fewer : Holder → List RefId) (w : Holder)
     → ((o : Holder) → o ≢ w → fewer o ≡ ids o)
     → ((n : ℕ) (i : RefId) → slice_get (ids w) n ≡ Some i → IsAbsent new i)
     → ((i : RefId) → ((n : ℕ) → slice_get (ids w) n ≢ Some i)
@@ -300,13 +300,13 @@ no_more-released old new ids fewer w rest gone others keeps i r h = elim (among 
 
 -- What is left of those who are gone is kept
 
-pub kept-same : (old new : Standing) (ids : ℕ → List RefId) → SameRefs old new
+pub kept-same : (old new : RefsById) (ids : ℕ → List RefId) → SameRefs old new
     → AreKept old ids → AreKept new ids
 kept-same old new ids same keeps b n i e =
     let found = keeps b n i e in
     (found.0, (same i found.0).0 found.1)
 
-pub kept-changed : (old new : Standing) (ids : ℕ → List RefId) (id : RefId) (f : Ref → Ref)
+pub kept-changed : (old new : RefsById) (ids : ℕ → List RefId) (id : RefId) (f : Ref → Ref)
     → Changed id f old new → AreKept old ids → AreKept new ids
 kept-changed old new ids id f change keeps b n i e =
     let found = keeps b n i e in
@@ -319,13 +319,13 @@ kept-changed old new ids id f change keeps b n i e =
       | inr differs ↦ (found.0, (change.others i differs found.0).0 found.1)
     ]
 
-pub kept-made : (old new : Standing) (ids : ℕ → List RefId) (id : RefId)
+pub kept-made : (old new : RefsById) (ids : ℕ → List RefId) (id : RefId)
     → IsAbsent old id → SameBut id old new → AreKept old ids → AreKept new ids
 kept-made old new ids id none same keeps b n i e =
     let found = keeps b n i e in
     (found.0, (same i (λ is. none found.0 (subst (λ i. old i found.0) is found.1)) found.0).0 found.1)
 
-pub kept-released : (old new : Standing) (d : Directory) (gone : Departed) (w : OwnerData)
+pub kept-released : (old new : RefsById) (d : Directory) (gone : Departed) (w : OwnerData)
     → AreApart (ids_held d gone)
     → ((i : RefId) → ((n : ℕ) → slice_get (refs_of d w) n ≢ Some i)
     → (ref : Ref) → old i ref → new i ref)
@@ -337,7 +337,7 @@ kept-released old new d gone w apart stays keeps b n i e =
     )
 
 -- an id that stands for nothing is nobody's
-pub fresh-held : (standing : Standing) (d : Directory) (gone : Departed)
+pub fresh-held : (standing : RefsById) (d : Directory) (gone : Departed)
     (refs : OwnerData → List Ref) (id : RefId) → IsAbsent standing id
     → StandFor standing (refs_of d) refs → AreKept standing (ids_left gone)
     → (h : Holder) (n : ℕ) → slice_get (ids_held d gone h) n ≢ Some id
@@ -376,7 +376,7 @@ apart-moved ids new w v here gone rest apart h k n m i e f =
         ]
       ]
 
-pub no_more-moved : (standing : Standing) (ids new : Holder → List RefId) (w v : Holder)
+pub no_more-moved : (standing : RefsById) (ids new : Holder → List RefId) (w v : Holder)
     → ids v ≡ [] → new v ≡ ids w → ((h : Holder) → h ≢ w → h ≢ v → new h ≡ ids h)
     → KeepsNoMore standing ids → KeepsNoMore standing new
 no_more-moved standing ids new w v none here rest keeps i r h = moved (keeps i r h) where
@@ -398,7 +398,7 @@ no_more-moved standing ids new w v none here rest keeps i r h = moved (keeps i r
     )
   ]
 
-pub kept-moved : (standing : Standing) (ids more : ℕ → List RefId) (own : List RefId)
+pub kept-moved : (standing : RefsById) (ids more : ℕ → List RefId) (own : List RefId)
     (refs : List Ref) (b : ℕ) → more b ≡ own → ((n : ℕ) → n ≢ b → more n ≡ ids n)
     → ((n : ℕ) → Matches standing (slice_get own n) (slice_get refs n))
     → AreKept standing ids → AreKept standing more
@@ -439,7 +439,7 @@ none-held ids new w id loses apart h n e =
     none-some (sym (slice_get-behind (new w))
     ∙ ap (λ n. slice_get (new w) n) (sym same.1) ∙ ap (λ h. slice_get (new h) n) (sym same.0) ∙ e)
 
-pub stand-dropped : (old new : Standing) (ids : OwnerData → List RefId)
+pub stand-dropped : (old new : RefsById) (ids : OwnerData → List RefId)
     (refs : OwnerData → List Ref) (id : RefId)
     → ((o : OwnerData) (n : ℕ) → slice_get (ids o) n ≢ Some id) → SameBut id old new
     → StandFor old ids refs → StandFor new ids refs
@@ -447,7 +447,7 @@ stand-dropped old new ids refs id none same h o n =
     kept old new (slice_get (ids o) n) (slice_get (refs o) n)
     (λ i ref e. (same i (λ is. none o n (e ∙ ap Some is)) ref).0) (h o n)
 
-pub kept-dropped : (old new : Standing) (ids fewer : ℕ → List RefId) (id : RefId)
+pub kept-dropped : (old new : RefsById) (ids fewer : ℕ → List RefId) (id : RefId)
     → ((b n : ℕ) (i : RefId) → slice_get (fewer b) n ≡ Some i → slice_get (ids b) n ≡ Some i)
     → ((b n : ℕ) → slice_get (fewer b) n ≢ Some id) → SameBut id old new
     → AreKept old ids → AreKept new fewer
@@ -455,7 +455,7 @@ kept-dropped old new ids fewer id was none same keeps b n i e =
     let found = keeps b n i (was b n i e) in
     (found.0, (same i (λ is. none b n (e ∙ ap Some is)) found.0).0 found.1)
 
-pub no_more-dropped : (old new : Standing) (ids fewer : Holder → List RefId) (w : Holder)
+pub no_more-dropped : (old new : RefsById) (ids fewer : Holder → List RefId) (w : Holder)
     (id : RefId) → Loses ids w id fewer → IsAbsent new id → SameBut id old new
     → KeepsNoMore old ids → KeepsNoMore new fewer
 no_more-dropped old new ids fewer w id loses gone same keeps i r h = elim (which i id) [
@@ -482,7 +482,7 @@ no_more-dropped old new ids fewer w id loses gone same keeps i r h = elim (which
   )
 
 -- a ref that was made and dropped
-pub undone : (old made new : Standing) (id : RefId) → IsAbsent old id → SameBut id old made
+pub undone : (old made new : RefsById) (id : RefId) → IsAbsent old id → SameBut id old made
     → IsAbsent new id → SameBut id made new → SameRefs old new
 undone old made new id none makes gone drops i r = elim (which i id) [
   | inl is ↦ (

@@ -12,9 +12,9 @@ use Rattle.ref_history.specs.Versioned.{Ref}
 use Rattle.ref_table.specs.Store.{Store, ref_named, with_changed_ref}
 use Rattle.ref_table.specs.Commit.{all_there}
 use Rattle.value_data.specs.Same.{same_owner}
-use Rattle.ref_history.specs.Changes.{Standing, IsAbsent, SameRefs, SameBut, Changed}
+use Rattle.ref_history.specs.Changes.{RefsById, IsAbsent, SameRefs, SameBut, Changed}
 use Rattle.ref_history.specs.declared.ref_id.RefId.{RefId}
-use Rattle.ref_table.specs.Refs.{Refs, store_of, refs_after, with_ref, without_refs}
+use Rattle.ref_table.specs.Refs.{TableRefs, store_of, refs_after, with_ref, without_refs}
 use Rattle.ref_table.specs.Directory.{refs_of, id_named, all_named}
 use Rattle.ref_table.specs.Departed.{ids_left, GetsBatch, LosesId}
 use Rattle.ref_table.specs.Standing.{Matches, StandFor, Holder, of_owner, of_batch, ids_held}
@@ -48,7 +48,7 @@ others_held t d o rest (of_batch b) differs = refl
 
 -- what a tenant sees adds nothing
 pub seen-stands : {H : Type 0} (stands : H → RefId → Ref → Type 0) (t : RefTable H) (caller : ℕ)
-    (points : List (Entry ℕ)) (r : Refs)
+    (points : List (Entry ℕ)) (r : TableRefs)
     → TableStands stands t r → TableStands stands t (refs_after (store_of caller points r) r)
 seen-stands stands t caller points r s = record {
   counter = s.counter;
@@ -61,7 +61,7 @@ seen-stands stands t caller points r s = record {
 
 -- the history keeps all that it stood for
 pub same-stands : {H : Type 0} (stands : H → RefId → Ref → Type 0) (t : RefTable H) (h : H)
-    (r : Refs) → SameRefs (stands t.history) (stands h)
+    (r : TableRefs) → SameRefs (stands t.history) (stands h)
     → TableStands stands t r → TableStands stands (record t { history = h }) r
 same-stands stands t h r same s = record {
   counter = s.counter;
@@ -73,7 +73,7 @@ same-stands stands t h r same s = record {
 
 -- a ref that the tenant sees changes
 pub with_changed_ref-stands : {H : Type 0} (stands : H → RefId → Ref → Type 0) (t : RefTable H) (h : H)
-    (s : Store) (r : Refs) (name : RefNameData) (id : RefId) (f : Ref → Ref)
+    (s : Store) (r : TableRefs) (name : RefNameData) (id : RefId) (f : Ref → Ref)
     → id_named t.directory s.tenant name ≡ Some id
     → Changed id f (stands t.history) (stands h)
     → TableStands stands t (refs_after s r)
@@ -95,7 +95,7 @@ with_changed_ref-stands stands t h s r name id f e change now = record {
 
 -- a change of a ref that the tenant does not see
 pub unseen-stands : {H : Type 0} (stands : H → RefId → Ref → Type 0) (t : RefTable H)
-    (s : Store) (r : Refs) (name : RefNameData) (f : Ref → Ref)
+    (s : Store) (r : TableRefs) (name : RefNameData) (f : Ref → Ref)
     → id_named t.directory s.tenant name ≡ None
     → TableStands stands t (refs_after s r) → TableStands stands t (refs_after (with_changed_ref name f s) r)
 unseen-stands stands t s r name f e now = record {
@@ -113,7 +113,7 @@ unseen-stands stands t s r name f e now = record {
 
 -- the ref that an id stands for is the one that is seen
 pub seen-there : {H : Type 0} (stands : H → RefId → Ref → Type 0) (t : RefTable H) (s : Store)
-    (r : Refs) (name : RefNameData) (id : RefId)
+    (r : TableRefs) (name : RefNameData) (id : RefId)
     → id_named t.directory s.tenant name ≡ Some id → TableStands stands t (refs_after s r)
     → (ref : Ref) × (ref_named name s ≡ Some ref) × stands t.history id ref
 seen-there stands t s r name id e now =
@@ -132,7 +132,7 @@ same_owner-apart (tenant t) (tenant u) differs = ne_eqb t u (λ e. differs (ap t
 
 -- an owner has one ref more
 pub made-stands : {H : Type 0} (stands : H → RefId → Ref → Type 0) (t : RefTable H)
-    (d : Directory) (h : H) (r : Refs) (o : OwnerData) (id : RefId) (ref : Ref)
+    (d : Directory) (h : H) (r : TableRefs) (o : OwnerData) (id : RefId) (ref : Ref)
     → refs_of d o ≡ refs_of t.directory o ++ id ∷ []
     → ((p : OwnerData) → p ≢ o → refs_of d p ≡ refs_of t.directory p)
     → IsAbsent (stands t.history) id → stands h id ref
@@ -157,7 +157,7 @@ made-stands stands t d h r o id ref adds rest none here same s = record {
 
 -- a ref was made, and could not be kept
 pub undone-stands : {H : Type 0} (stands : H → RefId → Ref → Type 0) (t : RefTable H)
-    (d : Directory) (h : H) (r : Refs)
+    (d : Directory) (h : H) (r : TableRefs)
     → ((p : OwnerData) → refs_of d p ≡ refs_of t.directory p) → SameRefs (stands t.history) (stands h)
     → TableStands stands t r
     → TableStands stands (record t { directory = d; history = h }) r
@@ -179,7 +179,7 @@ undone-stands stands t d h r as_it_was same s =
 
 -- what the refs of owners stand for where those of one are gone
 stand-without : {H : Type 0} (stands : H → RefId → Ref → Type 0) (t : RefTable H)
-    (d : Directory) (h : H) (r : Refs) (o : OwnerData)
+    (d : Directory) (h : H) (r : TableRefs) (o : OwnerData)
     → refs_of d o ≡ []
     → ((p : OwnerData) → p ≢ o → refs_of d p ≡ refs_of t.directory p)
     → ((i : RefId) → ((n : ℕ) → slice_get (refs_of t.directory o) n ≢ Some i)
@@ -194,7 +194,7 @@ stand-without stands t d h r o gone rest keeps s =
 
 -- a tenant has no refs any more
 pub released-stands : {H : Type 0} (stands : H → RefId → Ref → Type 0) (t : RefTable H)
-    (d : Directory) (h : H) (r : Refs) (o : OwnerData)
+    (d : Directory) (h : H) (r : TableRefs) (o : OwnerData)
     → refs_of d o ≡ []
     → ((p : OwnerData) → p ≢ o → refs_of d p ≡ refs_of t.directory p)
     → ((n : ℕ) (i : RefId) → slice_get (refs_of t.directory o) n ≡ Some i → IsAbsent (stands h) i)
@@ -215,7 +215,7 @@ released-stands stands t d h r o gone rest dropped keeps s = record {
 
 -- its refs are left to be dropped
 pub departed-stands : {H : Type 0} (stands : H → RefId → Ref → Type 0) (t : RefTable H)
-    (d : Directory) (left : Departed) (r : Refs) (o : OwnerData)
+    (d : Directory) (left : Departed) (r : TableRefs) (o : OwnerData)
     → refs_of d o ≡ []
     → ((p : OwnerData) → p ≢ o → refs_of d p ≡ refs_of t.directory p)
     → GetsBatch t.departed (refs_of t.directory o) left
@@ -237,7 +237,7 @@ departed-stands stands t d left r o gone rest gets s = record {
 
 -- where nothing was left of it
 pub empty-stands : {H : Type 0} (stands : H → RefId → Ref → Type 0) (t : RefTable H)
-    (left : Departed) (r : Refs) → ((b : ℕ) → ids_left left b ≡ ids_left t.departed b)
+    (left : Departed) (r : TableRefs) → ((b : ℕ) → ids_left left b ≡ ids_left t.departed b)
     → TableStands stands t r → TableStands stands (record t { departed = left }) r
 empty-stands stands t left r same s =
     let batches : ids_left left ≡ ids_left t.departed = fun_ext same in
@@ -256,7 +256,7 @@ empty-stands stands t left r same s =
 
 -- one of its refs is dropped
 pub dropped-stands : {H : Type 0} (stands : H → RefId → Ref → Type 0) (t : RefTable H)
-    (left : Departed) (h : H) (r : Refs) (id : RefId) → LosesId t.departed id left
+    (left : Departed) (h : H) (r : TableRefs) (id : RefId) → LosesId t.departed id left
     → IsAbsent (stands h) id → SameBut id (stands t.history) (stands h)
     → TableStands stands t r → TableStands stands (record t { departed = left; history = h }) r
 dropped-stands stands t left h r id loses gone same s = record {
@@ -285,14 +285,14 @@ dropped-stands stands t left h r id loses gone same s = record {
 
 -- all that a tenant names is there
 pub all-named : {H : Type 0} (stands : H → RefId → Ref → Type 0) (t : RefTable H) (s : Store)
-    (r : Refs) (names : List RefNameData) → TableStands stands t (refs_after s r)
+    (r : TableRefs) (names : List RefNameData) → TableStands stands t (refs_after s r)
     → all_named t.directory s.tenant names ≡ all_there names s
 all-named stands t s r [] now = refl
 all-named stands t s r (name ∷ names) now =
     ap₂ ◌&&◌ (both (stands t.history) (id_named t.directory s.tenant name) (ref_named name s)
     (stands-within (stands t.history) t.directory s r name.owner name.number now.refs))
     (all-named stands t s r names now) where
-      both : (standing : Standing) (o : Option RefId) (x : Option Ref) → Matches standing o x
+      both : (standing : RefsById) (o : Option RefId) (x : Option Ref) → Matches standing o x
           → is_some o ≡ is_some x
       both standing None None h = refl
       both standing None (Some x) h = absurd h

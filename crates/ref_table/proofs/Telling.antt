@@ -10,10 +10,10 @@ use Rattle.repl_asks.specs.Exchange.{value, reading, found, retry}
 use Rattle.ref_table.specs.Numbered.{Entry}
 use Rattle.ref_history.specs.Versioned.{Ref, new_ref, with_failed_read}
 use Rattle.ref_table.specs.Store.{ref_named}
-use Rattle.ref_table.specs.Calls.{read_at, bound_set, performed_make}
+use Rattle.ref_table.specs.Calls.{read_at, performed_bound_set, performed_make}
 use Rattle.ref_history.specs.Changes.{SameRefs, Changed}
 use Rattle.ref_history.specs.declared.ref_id.RefId.{RefId}
-use Rattle.ref_table.specs.Refs.{Refs, store_of, refs_after, with_ref}
+use Rattle.ref_table.specs.Refs.{TableRefs, store_of, refs_after, with_ref}
 use Rattle.ref_table.specs.Directory.{refs_of, id_named, id_within, own_id, own_id_within}
 use Rattle.ref_table.specs.Standing.{TableStands}
 use Rattle.ref_table.specs.Told.{Performs}
@@ -29,7 +29,7 @@ on_err (Err e) p = p
 
 -- what a read finds is told
 pub found-performs : {H : Type 0} (stands : H → RefId → Ref → Type 0) (t : RefTable H) (h : H)
-    (r : Refs) (caller : ℕ) (points : List (Entry ℕ)) (seat : ℕ) (name : RefNameData)
+    (r : TableRefs) (caller : ℕ) (points : List (Entry ℕ)) (seat : ℕ) (name : RefNameData)
     (o : Option Datum) (d : Datum) → o ≡ Some d → SameRefs (stands t.history) (stands h)
     → TableStands stands t r
     → Performs stands (record t { history = h }) r (Some (reading (found d)))
@@ -45,7 +45,7 @@ found-performs stands t h r caller points seat name o d is same s =
 
 -- a read that finds nothing is noted
 pub retry-performs : {H : Type 0} (stands : H → RefId → Ref → Type 0) (t : RefTable H) (h : H)
-    (r : Refs) (caller : ℕ) (points : List (Entry ℕ)) (seat : ℕ) (name : RefNameData) (id : RefId)
+    (r : TableRefs) (caller : ℕ) (points : List (Entry ℕ)) (seat : ℕ) (name : RefNameData) (id : RefId)
     (o : Option Datum) → id_named t.directory caller name ≡ Some id
     → Changed id with_failed_read (stands t.history) (stands h) → o ≡ None → TableStands stands t r
     → Performs stands (record t { history = h }) r (Some (reading retry))
@@ -67,12 +67,12 @@ owned d caller (tenant t) n id e = (t, refl, e)
 
 -- a bound of one of the tenant's own refs is set
 pub bound-performs : {H : Type 0} (stands : H → RefId → Ref → Type 0) (t : RefTable H) (h : H)
-    (r : Refs) (caller : ℕ) (points : List (Entry ℕ)) (name : RefNameData) (id : RefId)
+    (r : TableRefs) (caller : ℕ) (points : List (Entry ℕ)) (name : RefNameData) (id : RefId)
     (f : Ref → Ref) → own_id t.directory caller name ≡ Some id
     → Changed id f (stands t.history) (stands h) → TableStands stands t r
     → Performs stands (record t { history = h }) r
     (Some (value (datum.ref name.owner name.number)))
-    (bound_set name name.owner f (store_of caller points r)
+    (performed_bound_set name name.owner f (store_of caller points r)
     (ref_named name (store_of caller points r)))
 bound-performs stands t h r caller points name id f e change s =
     let own = owned t.directory caller name.owner name.number id e in
@@ -80,17 +80,17 @@ bound-performs stands t h r caller points name id f e change s =
     let found = seen-there stands t (store_of caller points r) r name id own.2 seen in
     subst (λ x. Performs stands (record t { history = h }) r
     (Some (value (datum.ref name.owner name.number)))
-    (bound_set name name.owner f (store_of caller points r) x)) (sym found.1)
+    (performed_bound_set name name.owner f (store_of caller points r) x)) (sym found.1)
     (subst (λ o. Performs stands (record t { history = h }) r
     (Some (value (datum.ref name.owner name.number)))
-    (bound_set name o f (store_of caller points r) (Some found.0))) (sym own.1)
+    (performed_bound_set name o f (store_of caller points r) (Some found.0))) (sym own.1)
     (record {
       told = ap (λ o. Some (value (datum.ref o name.number))) own.1;
       left = with_changed_ref-stands stands t h (store_of caller points r) r name id f own.2 change seen;
     }))
 
 -- a tenant has one ref more
-pub performed_make-performs : {H : Type 0} (stands : H → RefId → Ref → Type 0) (t : RefTable H) (r : Refs)
+pub performed_make-performs : {H : Type 0} (stands : H → RefId → Ref → Type 0) (t : RefTable H) (r : TableRefs)
     (caller : ℕ) (points : List (Entry ℕ)) (d : Datum) (least most n : ℕ)
     → n ≡ length (r.owned (tenant caller))
     → TableStands stands t (with_ref (tenant caller) (new_ref (record { stamp = 0; content = d }) least most) r)

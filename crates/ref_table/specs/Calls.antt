@@ -15,24 +15,24 @@ use Rattle.ref_table.specs.Performed.{Performed, as_was, tells}
 use Rattle.ref_table.specs.Commit.{commit_by}
 
 -- An actor is named by its seat. What it asks is of its own attempt, if one runs.
-pub data Call : Type 0 where
-  nothing : Call
+pub data StoreCall : Type 0 where
+  nothing : StoreCall
   -- a new ref, with this value and these bounds
-  makes : Datum → ℕ → ℕ → Call
-  begins : ℕ → Call
-  leaves_attempt : ℕ → Call
-  reads : ℕ → RefNameData → Call
-  counts : ℕ → RefNameData → Call
-  tells_least : RefNameData → Call
-  tells_most : RefNameData → Call
-  sets_least : RefNameData → ℕ → Call
-  sets_most : RefNameData → ℕ → Call
-  commits : ℕ → IntentData → Call
+  makes : Datum → ℕ → ℕ → StoreCall
+  begins : ℕ → StoreCall
+  leaves_attempt : ℕ → StoreCall
+  reads : ℕ → RefNameData → StoreCall
+  counts : ℕ → RefNameData → StoreCall
+  tells_least : RefNameData → StoreCall
+  tells_most : RefNameData → StoreCall
+  sets_least : RefNameData → ℕ → StoreCall
+  sets_most : RefNameData → ℕ → StoreCall
+  commits : ℕ → IntentData → StoreCall
   -- nothing, where an attempt runs; and where none does
-  inside : ℕ → Call
-  outside : ℕ → Call
+  inside : ℕ → StoreCall
+  outside : ℕ → StoreCall
   -- the attempt is left, where this could be asked
-  gives_up : ℕ → Call → Call
+  gives_up : ℕ → StoreCall → StoreCall
 
 -- Making
 
@@ -71,10 +71,11 @@ count_told shared (Some point) r = None
 count_told _ _ r = option_map (λ r. number_told r.kept) r
 
 -- a shared ref's bounds are not set
-abbrev pub bound_set : RefNameData → OwnerData → (Ref → Ref) → Store → Option Ref → Performed Store
-bound_set name owner f s None = as_was s None
-bound_set name shared f s (Some r) = as_was s None
-bound_set name (tenant t) f s (Some r) =
+abbrev pub performed_bound_set
+    : RefNameData → OwnerData → (Ref → Ref) → Store → Option Ref → Performed Store
+performed_bound_set name owner f s None = as_was s None
+performed_bound_set name shared f s (Some r) = as_was s None
+performed_bound_set name (tenant t) f s (Some r) =
     tells (value (datum.ref (tenant t) name.number)) (with_changed_ref name f s)
 
 -- Standing in an attempt, or in none
@@ -95,7 +96,7 @@ given_up seat s (Some answer) = tells done (left_attempt seat s)
 
 -- What a call comes to. Nothing is told where it names a ref or an attempt that is not there, or
 -- breaks a rule; then all stays.
-abbrev pub performed : Store → Call → Performed Store
+abbrev pub performed : Store → StoreCall → Performed Store
 performed s nothing = tells done s
 performed s (makes d least most) = performed_make s d least most
 performed s (begins seat) = performed_begin seat s (numbered.part_under seat s.mine.points)
@@ -106,8 +107,10 @@ performed s (counts seat name) =
     as_was s (count_told name.owner (numbered.part_under seat s.mine.points) (ref_named name s))
 performed s (tells_least name) = as_was s (option_map (λ r. number_told r.least) (ref_named name s))
 performed s (tells_most name) = as_was s (option_map (λ r. number_told r.most) (ref_named name s))
-performed s (sets_least name n) = bound_set name name.owner (with_least n) s (ref_named name s)
-performed s (sets_most name n) = bound_set name name.owner (with_most n) s (ref_named name s)
+performed s (sets_least name n) =
+    performed_bound_set name name.owner (with_least n) s (ref_named name s)
+performed s (sets_most name n) =
+    performed_bound_set name name.owner (with_most n) s (ref_named name s)
 performed s (commits seat intent) = commit_by seat intent s (numbered.part_under seat s.mine.points)
 performed s (inside seat) = as_was s (told_inside (numbered.part_under seat s.mine.points))
 performed s (outside seat) = as_was s (told_outside (numbered.part_under seat s.mine.points))

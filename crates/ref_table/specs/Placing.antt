@@ -23,16 +23,16 @@ with_place None d rest = rest
 with_place (Some id) d rest = (id, d) ∷ rest
 
 -- each change with the id of its ref, where it is there
-abbrev pub places_of : Directory → ℕ → List ChangeData → List (RefId × Datum)
-places_of d caller [] = []
-places_of d caller (c ∷ cs) =
-    with_place (id_named d caller c.name) c.now (places_of d caller cs)
+abbrev pub placed_changes : Directory → ℕ → List ChangeData → List (RefId × Datum)
+placed_changes d caller [] = []
+placed_changes d caller (c ∷ cs) =
+    with_place (id_named d caller c.name) c.now (placed_changes d caller cs)
 
 -- where what is set goes, and what was folded behind it
 abbrev pub all_placed
     : Directory → ℕ → List ChangeData → Result (List ChangeData) Failure
     → Result (List (RefId × Datum)) Failure
-all_placed d caller sets folds = folds >>= λ changes. Ok (places_of d caller (sets ++ changes))
+all_placed d caller sets folds = folds >>= λ changes. Ok (placed_changes d caller (sets ++ changes))
 
 -- no two are the same
 abbrev pub all_distinct : {K : Type 0} → (K → K → Bool) → List K → Bool

@@ -6,17 +6,17 @@ use Rattle.ref_history.specs.Versioned.{Ref}
 use Rattle.ref_table.specs.Store.{Store}
 use Rattle.value_data.specs.Same.{same_owner}
 
-pub record Refs : Type 0 where
+pub record TableRefs : Type 0 where
   -- how many commits there were that changed a ref
   pub counter : ℕ
   -- of each owner its refs, by their numbers
   pub owned : OwnerData → List Ref
 
-abbrev pub no_refs : Refs
+abbrev pub no_refs : TableRefs
 no_refs = record { counter = 0; owned = λ owner. [] }
 
 -- what a tenant sees of them whose actors have these read points
-abbrev pub store_of : ℕ → List (Entry ℕ) → Refs → Store
+abbrev pub store_of : ℕ → List (Entry ℕ) → TableRefs → Store
 store_of caller points r = record {
   around = record { counter = r.counter; refs = r.owned shared };
   tenant = caller;
@@ -29,21 +29,21 @@ owned_with common caller own owned shared = common
 owned_with common caller own owned (tenant t) = if t == caller then own else owned (tenant t)
 
 -- all refs, once a tenant sees this
-abbrev pub refs_after : Store → Refs → Refs
+abbrev pub refs_after : Store → TableRefs → TableRefs
 refs_after s r = record {
   counter = s.around.counter;
   owned = owned_with s.around.refs s.tenant s.mine.refs r.owned;
 }
 
 -- an owner has one ref more
-abbrev pub with_ref : OwnerData → Ref → Refs → Refs
+abbrev pub with_ref : OwnerData → Ref → TableRefs → TableRefs
 with_ref owner ref r = record {
   counter = r.counter;
   owned = λ o. if same_owner o owner then r.owned o ++ ref ∷ [] else r.owned o;
 }
 
 -- an owner has no refs
-abbrev pub without_refs : OwnerData → Refs → Refs
+abbrev pub without_refs : OwnerData → TableRefs → TableRefs
 without_refs owner r = record {
   counter = r.counter;
   owned = λ o. if same_owner o owner then [] else r.owned o;

@@ -12,13 +12,13 @@ use Rattle.ref_history.specs.Versioned.{Ref}
 use Rattle.ref_table.specs.Store.{Store}
 use Rattle.ref_table.specs.Performed.{Performed}
 use Rattle.ref_history.specs.declared.ref_id.RefId.{RefId}
-use Rattle.ref_table.specs.Refs.{Refs, refs_after}
+use Rattle.ref_table.specs.Refs.{TableRefs, refs_after}
 use Rattle.ref_table.specs.Standing.{TableStands}
 use Rattle.ref_table.specs.declared.table.RefTable.{RefTable}
 use Rattle.ref_table.specs.declared.outcome.CommitOutcome.{CommitOutcome}
 
 -- what the rules tell is told, and the table stands for the refs as they leave them
-pub record Performs {H : Type 0} (stands : H → RefId → Ref → Type 0) (t : RefTable H) (r : Refs)
+pub record Performs {H : Type 0} (stands : H → RefId → Ref → Type 0) (t : RefTable H) (r : TableRefs)
     (answer : Option AnswerData) (p : Performed Store) : Type 0 where
   pub told : answer ≡ p.told
   pub left : TableStands stands t (refs_after p.store r)

@@ -11,10 +11,10 @@ ghost use Rattle.ref_table.specs.Calls.{performed, commits};
 ghost use Rattle.ref_table.specs.Commit.{guarded_refs, touched_refs, changing_refs, all_there};
 ghost use Rattle.ref_table.specs.Commit.{all_fit, all_take, intent_fits, is_newer_ref};
 ghost use Rattle.ref_table.specs.Commit.{any_newer, all_folded, with_all};
-ghost use Rattle.ref_table.specs.Refs.{Refs, store_of, refs_after};
+ghost use Rattle.ref_table.specs.Refs.{TableRefs, store_of, refs_after};
 ghost use Rattle.ref_table.specs.Directory.{all_named, ids_named};
 ghost use Rattle.ref_table.specs.Standing.{TableStands, counter_of};
-ghost use Rattle.ref_table.specs.Placing.{placed_view, places_of, all_placed, all_distinct};
+ghost use Rattle.ref_table.specs.Placing.{placed_view, placed_changes, all_placed, all_distinct};
 ghost use Rattle.ref_table.specs.Accepting.{may_commit, is_acceptable};
 ghost use Rattle.ref_table.specs.Told.{Performs, outcome_told, is_committed};
 
@@ -42,14 +42,14 @@ impl<H: History> RefTable<H> {
         point: Point,
     ) -> Result<CommitOutcome, AllocError>
         requires { counter_of self.old < u128.MAX }
-        ensures committed { (r : Refs) (points : List (Entry ℕ)) (seat : ℕ)
+        ensures committed { (r : TableRefs) (points : List (Entry ℕ)) (seat : ℕ)
             → TableStands H.stands self.old r → part_under seat points ≡ Some point.stamp
             → IfOk result (λ outcome. Performs H.stands self.new r (outcome_told outcome)
             (performed (store_of caller points r) (commits seat (intent_view intent.now)))) }
-        ensures as_it_was { (r : Refs) → TableStands H.stands self.old r
+        ensures as_it_was { (r : TableRefs) → TableStands H.stands self.old r
             → OnErr result (TableStands H.stands self.new r) }
         ensures counter { counter_of self.new ≤ counter_of self.old + 1 }
-        ensures accepted { (r : Refs) (points : List (Entry ℕ)) → TableStands H.stands self.old r
+        ensures accepted { (r : TableRefs) (points : List (Entry ℕ)) → TableStands H.stands self.old r
             → OnErr result ((all_there (touched_refs (intent_view intent.now))
             (store_of caller points r) && intent_fits (intent_view intent.now)) ≡ true) }
         ensures unmoved { IfOk result (λ outcome. is_committed outcome ≡ false
@@ -76,7 +76,7 @@ impl<H: History> RefTable<H> {
     /// may hold what it is set to, and what is commuted takes its arguments. For n refs that it
     /// names it takes about n log n steps, or n² where memory is refused.
     pub fn accepts(&self, alloc: Global, caller: u64, intent: &Intent) -> bool
-        ensures { (r : Refs) (points : List (Entry ℕ)) → TableStands H.stands self.now r
+        ensures { (r : TableRefs) (points : List (Entry ℕ)) → TableStands H.stands self.now r
             → result ≡ (all_there (touched_refs (intent_view intent.now)) (store_of caller points r)
             && intent_fits (intent_view intent.now)) }
     {
@@ -110,7 +110,7 @@ impl<H: History> RefTable<H> {
         intent: &Intent,
     ) -> Result<Vec<Placed>, ApplyError>
         requires { all_take (intent_view intent.now).commuted ≡ true }
-        ensures placed { (r : Refs) (points : List (Entry ℕ)) → TableStands H.stands self.now r
+        ensures placed { (r : TableRefs) (points : List (Entry ℕ)) → TableStands H.stands self.now r
             → let i = intent_view intent.now in
             Gives (λ placed. map placed_view placed.items) result
             (all_placed self.now.directory caller i.sets
@@ -125,7 +125,7 @@ impl<H: History> RefTable<H> {
     // Whether a ref that was set or ensured has a version from after the point.
     #[tactic(auto, using(crate::proofs::Committing::either_newer))]
     fn is_any_guarded_newer(&self, caller: u64, intent: &Intent, point: Point) -> bool
-        ensures { (r : Refs) (points : List (Entry ℕ)) → TableStands H.stands self.now r → result
+        ensures { (r : TableRefs) (points : List (Entry ℕ)) → TableStands H.stands self.now r → result
             ≡ any_newer point.stamp (guarded_refs (intent_view intent.now))
             (store_of caller points r) }
     {
@@ -134,7 +134,7 @@ impl<H: History> RefTable<H> {
     }
 
     fn is_newer(&self, caller: u64, name: RefName, point: Point) -> bool
-        ensures { (r : Refs) (points : List (Entry ℕ)) → TableStands H.stands self.now r → result
+        ensures { (r : TableRefs) (points : List (Entry ℕ)) → TableStands H.stands self.now r → result
             ≡ is_newer_ref point.stamp (ref_named (name_view name) (store_of caller points r)) }
     {
         match self.directory.id_of(caller, name) {
@@ -144,7 +144,7 @@ impl<H: History> RefTable<H> {
     }
 
     fn is_any_set_newer(&self, caller: u64, sets: &[Change], point: Point) -> bool
-        ensures { (r : Refs) (points : List (Entry ℕ)) → TableStands H.stands self.now r → result
+        ensures { (r : TableRefs) (points : List (Entry ℕ)) → TableStands H.stands self.now r → result
             ≡ any_newer point.stamp (map (λ c. name_view c.name) sets.now)
             (store_of caller points r) }
     {
@@ -157,7 +157,7 @@ impl<H: History> RefTable<H> {
     }
 
     fn is_any_newer(&self, caller: u64, names: &[RefName], point: Point) -> bool
-        ensures { (r : Refs) (points : List (Entry ℕ)) → TableStands H.stands self.now r → result
+        ensures { (r : TableRefs) (points : List (Entry ℕ)) → TableStands H.stands self.now r → result
             ≡ any_newer point.stamp (map name_view names.now) (store_of caller points r) }
     {
         for name in names {
@@ -173,13 +173,13 @@ impl<H: History> RefTable<H> {
         requires room { counter_of self.old < u128.MAX }
         requires once { all_distinct (eq_by_cmp ⟦<RefId as Ord>⟧.cmp)
             (map (λ p. p.id) placed.items) ≡ true }
-        ensures put { (r : Refs) (caller : ℕ) (points : List (Entry ℕ)) (changes : List ChangeData)
+        ensures put { (r : TableRefs) (caller : ℕ) (points : List (Entry ℕ)) (changes : List ChangeData)
             → TableStands H.stands self.old r
             → all_named self.old.directory caller (map (λ c. c.name) changes) ≡ true
-            → map placed_view placed.items ≡ places_of self.old.directory caller changes
+            → map placed_view placed.items ≡ placed_changes self.old.directory caller changes
             → OnOk result (TableStands H.stands self.new
             (refs_after (with_all changes (store_of caller points r)) r)) }
-        ensures as_it_was { (r : Refs) → TableStands H.stands self.old r
+        ensures as_it_was { (r : TableRefs) → TableStands H.stands self.old r
             → OnErr result (TableStands H.stands self.new r) }
         ensures counter { counter_of self.new ≤ counter_of self.old + 1 }
         ensures failed { OnErr result (counter_of self.new ≡ counter_of self.old) }

@@ -9,7 +9,7 @@ ghost use Rattle.ref_table.specs.Numbered.{Entry};
 ghost use Rattle.ref_table.specs.Store.{newest_value};
 ghost use Rattle.ref_table.specs.Commit.{takes_its_arguments, all_take, result_of, folded_value};
 ghost use Rattle.ref_table.specs.Commit.{folded_from, all_folded};
-ghost use Rattle.ref_table.specs.Refs.{Refs, store_of};
+ghost use Rattle.ref_table.specs.Refs.{TableRefs, store_of};
 ghost use Rattle.ref_table.specs.Standing.{TableStands};
 
 use crate::fitting::may_hold;
@@ -30,7 +30,7 @@ impl<H: History> RefTable<H> {
         commuted: &[Commuted],
     ) -> Result<Vec<Change>, ApplyError>
         requires { all_take (map commuted_view commuted.now) ≡ true }
-        ensures folded { (r : Refs) (points : List (Entry ℕ)) → TableStands H.stands self.now r
+        ensures folded { (r : TableRefs) (points : List (Entry ℕ)) → TableStands H.stands self.now r
             → Gives (λ changes. map change_view changes.items) result
             (all_folded (λ name. newest_value name (store_of caller points r))
             (map commuted_view commuted.now)) }
@@ -56,7 +56,7 @@ impl<H: History> RefTable<H> {
         commuted: &Commuted,
     ) -> Result<Value, ApplyError>
         requires { list_all takes_its_arguments (commuted_view commuted.now).commutes ≡ true }
-        ensures { (r : Refs) (points : List (Entry ℕ)) → TableStands H.stands self.now r
+        ensures { (r : TableRefs) (points : List (Entry ℕ)) → TableStands H.stands self.now r
             → Gives view result (folded_from (commuted_view commuted.now)
             (newest_value (name_view commuted.now.name) (store_of caller points r))) }
     {
@@ -67,7 +67,7 @@ impl<H: History> RefTable<H> {
     }
 
     fn newest(&self, caller: u64, name: RefName) -> Option<&Value>
-        ensures { (r : Refs) (points : List (Entry ℕ)) → TableStands H.stands self.now r
+        ensures { (r : TableRefs) (points : List (Entry ℕ)) → TableStands H.stands self.now r
             → option_map (λ v. view v.now) result
             ≡ newest_value (name_view name) (store_of caller points r) }
     {

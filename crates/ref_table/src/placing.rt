@@ -6,7 +6,8 @@ ghost use Rattle.repl_asks.specs.Inside.View.{name_view, change_view, intent_vie
 ghost use Rattle.ref_table.specs.Commit.{changing_refs};
 ghost use Rattle.ref_history.specs.Changes.{SameRefs};
 ghost use Rattle.ref_table.specs.Directory.{id_named, with_id, ids_named};
-ghost use Rattle.ref_table.specs.Placing.{placed_view, places_of, all_distinct, HaveRoom, AddsAll};
+ghost use Rattle.ref_table.specs.Placing.{placed_view, placed_changes, all_distinct, HaveRoom};
+ghost use Rattle.ref_table.specs.Placing.{AddsAll};
 
 use crate::directory::Directory;
 use ref_history::{History, RefId};
@@ -33,7 +34,7 @@ impl Directory {
         folded: &[Change],
     ) -> Result<Vec<Placed>, AllocError>
         ensures { IfOk result (λ placed. map placed_view placed.items
-            ≡ places_of self.now caller (map change_view sets.now ++ map change_view folded.now)) }
+            ≡ placed_changes self.now caller (map change_view sets.now ++ map change_view folded.now)) }
     {
         let mut placed = Vec::new(alloc);
         self.place(caller, sets, &mut placed)?;
@@ -48,7 +49,7 @@ impl Directory {
         placed: &mut Vec<Placed>,
     ) -> Result<(), AllocError>
         ensures { OnOk result (map placed_view placed.new.items
-            ≡ map placed_view placed.old.items ++ places_of self.now caller
+            ≡ map placed_view placed.old.items ++ placed_changes self.now caller
             (map change_view changes.now)) }
     {
         for change in changes {

@@ -8,7 +8,7 @@ ghost use Rattle.ref_history.specs.Versioned.{Ref, readable, newest};
 ghost use Rattle.ref_table.specs.Store.{ref_named};
 ghost use Rattle.ref_table.specs.Calls.{performed, read_at, reads, sets_least, sets_most};
 ghost use Rattle.ref_history.specs.Effects.{bounds_of};
-ghost use Rattle.ref_table.specs.Refs.{Refs, store_of};
+ghost use Rattle.ref_table.specs.Refs.{TableRefs, store_of};
 ghost use Rattle.ref_table.specs.Directory.{id_named, own_id};
 ghost use Rattle.ref_table.specs.Standing.{TableStands, counter_of};
 ghost use Rattle.ref_table.specs.Told.{Performs, reading_told, setting_told};
@@ -32,12 +32,12 @@ impl<H: History> RefTable<H> {
         name: RefName,
         point: Option<Point>,
     ) -> Result<Option<Reading>, AllocError>
-        ensures read { (r : Refs) (points : List (Entry ℕ)) (seat : ℕ)
+        ensures read { (r : TableRefs) (points : List (Entry ℕ)) (seat : ℕ)
             → TableStands H.stands self.old r
             → point_found seat points ≡ option_map (λ p. p.stamp) point
             → IfOk result (λ told. Performs H.stands self.new r (reading_told told)
             (performed (store_of caller points r) (reads seat (name_view name)))) }
-        ensures as_it_was { (r : Refs) → TableStands H.stands self.old r
+        ensures as_it_was { (r : TableRefs) → TableStands H.stands self.old r
             → OnErr result (TableStands H.stands self.new r) }
         ensures counter { counter_of self.new ≡ counter_of self.old }
     {
@@ -52,13 +52,13 @@ impl<H: History> RefTable<H> {
 
     // As an attempt reads.
     fn read_at(&mut self, id: RefId, point: Point) -> Result<Reading, AllocError>
-        ensures read { (r : Refs) (caller : ℕ) (points : List (Entry ℕ)) (seat : ℕ)
+        ensures read { (r : TableRefs) (caller : ℕ) (points : List (Entry ℕ)) (seat : ℕ)
             (name : RefNameData) (ref : Ref) → TableStands H.stands self.old r
             → id_named self.old.directory caller name ≡ Some id
             → ref_named name (store_of caller points r) ≡ Some ref
             → IfOk result (λ it. Performs H.stands self.new r (Some (reading (reading_view it)))
             (read_at seat name (store_of caller points r) (readable point.stamp ref))) }
-        ensures as_it_was { (r : Refs) → TableStands H.stands self.old r
+        ensures as_it_was { (r : TableRefs) → TableStands H.stands self.old r
             → OnErr result (TableStands H.stands self.new r) }
         ensures counter { counter_of self.new ≡ counter_of self.old }
     {
@@ -80,7 +80,7 @@ impl<H: History> RefTable<H> {
 
     /// How many versions a ref has behind its newest.
     pub fn history_count(&self, caller: u64, name: RefName) -> Option<u64>
-        ensures { (r : Refs) (points : List (Entry ℕ)) → TableStands H.stands self.now r
+        ensures { (r : TableRefs) (points : List (Entry ℕ)) → TableStands H.stands self.now r
             → result ≡ option_map (λ ref. ref.kept)
             (ref_named (name_view name) (store_of caller points r)) }
     {
@@ -89,7 +89,7 @@ impl<H: History> RefTable<H> {
 
     /// How many versions a ref keeps behind its newest, at the least and at the most.
     pub fn bounds(&self, caller: u64, name: RefName) -> Option<Bounds>
-        ensures { (r : Refs) (points : List (Entry ℕ)) → TableStands H.stands self.now r
+        ensures { (r : TableRefs) (points : List (Entry ℕ)) → TableStands H.stands self.now r
             → result ≡ option_map bounds_of
             (ref_named (name_view name) (store_of caller points r)) }
     {
@@ -99,7 +99,7 @@ impl<H: History> RefTable<H> {
     /// Sets how many versions a ref keeps behind its newest at the least, and answers whether it is
     /// there and not shared. It takes no memory.
     pub fn set_least(&mut self, caller: u64, name: RefName, least: u64) -> bool
-        ensures told { (r : Refs) (points : List (Entry ℕ)) → TableStands H.stands self.old r
+        ensures told { (r : TableRefs) (points : List (Entry ℕ)) → TableStands H.stands self.old r
             → Performs H.stands self.new r (setting_told name result)
             (performed (store_of caller points r) (sets_least (name_view name) least)) }
         ensures counter { counter_of self.new ≡ counter_of self.old }
@@ -116,7 +116,7 @@ impl<H: History> RefTable<H> {
     /// Sets how many versions a ref keeps behind its newest at the most, and answers whether it is
     /// there and not shared. Versions that are kept by now stay. It takes no memory.
     pub fn set_most(&mut self, caller: u64, name: RefName, most: u64) -> bool
-        ensures told { (r : Refs) (points : List (Entry ℕ)) → TableStands H.stands self.old r
+        ensures told { (r : TableRefs) (points : List (Entry ℕ)) → TableStands H.stands self.old r
             → Performs H.stands self.new r (setting_told name result)
             (performed (store_of caller points r) (sets_most (name_view name) most)) }
         ensures counter { counter_of self.new ≡ counter_of self.old }

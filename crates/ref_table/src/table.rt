@@ -9,7 +9,7 @@ ghost use Rattle.ref_history.specs.Versioned.{Ref};
 ghost use Rattle.ref_table.specs.Calls.{performed, makes, begins};
 ghost use Rattle.ref_history.specs.Changes.{IsAbsent};
 ghost use Rattle.ref_history.specs.Effects.{first_ref};
-ghost use Rattle.ref_table.specs.Refs.{Refs, no_refs, store_of, with_ref, without_refs};
+ghost use Rattle.ref_table.specs.Refs.{TableRefs, no_refs, store_of, with_ref, without_refs};
 
 use crate::departed::Departed;
 use crate::directory::Directory;
@@ -60,20 +60,20 @@ impl<H: History> RefTable<H> {
         value: Value,
         bounds: Bounds,
     ) -> Result<RefName, AllocError>
-        ensures name { (r : Refs) → TableStands H.stands self.old r → IfOk result (λ name.
+        ensures name { (r : TableRefs) → TableStands H.stands self.old r → IfOk result (λ name.
             name ≡ record { owner = owner; number = length (r.owned (owner_view owner)) }) }
-        ensures made { (r : Refs) → TableStands H.stands self.old r
+        ensures made { (r : TableRefs) → TableStands H.stands self.old r
             → OnOk result (TableStands H.stands self.new
             (with_ref (owner_view owner) (first_ref (view value) bounds) r)) }
 
         // One of a tenant is made as the rules say.
-        ensures told { (r : Refs) (points : List (Entry ℕ)) (caller : ℕ)
+        ensures told { (r : TableRefs) (points : List (Entry ℕ)) (caller : ℕ)
             → TableStands H.stands self.old r → owner ≡ Owner.Tenant caller
             → IfOk result (λ name. Performs H.stands self.new r
             (Some (value_told (ref (owner_view name.owner) name.number)))
             (performed (store_of caller points r)
             (makes (view value) bounds.least bounds.most))) }
-        ensures as_it_was { (r : Refs) → TableStands H.stands self.old r
+        ensures as_it_was { (r : TableRefs) → TableStands H.stands self.old r
             → OnErr result (TableStands H.stands self.new r) }
         ensures counter { counter_of self.new ≡ counter_of self.old }
     {
@@ -90,11 +90,11 @@ impl<H: History> RefTable<H> {
     /// The read point of an attempt that begins now.
     pub fn begin(&self) -> Point
         ensures point { result.stamp ≡ counter_of self.now }
-        ensures begun { (r : Refs) (points : List (Entry ℕ)) (caller seat : ℕ)
+        ensures begun { (r : TableRefs) (points : List (Entry ℕ)) (caller seat : ℕ)
             → TableStands H.stands self.now r → part_under seat points ≡ None
             → Performs H.stands self.now r (Some done)
             (performed (store_of caller points r) (begins seat)) }
-        ensures noted { (r : Refs) (points : List (Entry ℕ)) (caller seat : ℕ)
+        ensures noted { (r : TableRefs) (points : List (Entry ℕ)) (caller seat : ℕ)
             → TableStands H.stands self.now r → part_under seat points ≡ None
             → (performed (store_of caller points r) (begins seat)).store.mine.points
             ≡ entry seat result.stamp ∷ points }
@@ -108,7 +108,7 @@ impl<H: History> RefTable<H> {
     /// logarithm of the number of tenants: the refs are dropped by `drop_departed`, or here where
     /// memory is refused.
     pub fn release(&mut self, tenant: u64)
-        ensures { (r : Refs) → TableStands H.stands self.old r
+        ensures { (r : TableRefs) → TableStands H.stands self.old r
             → TableStands H.stands self.new (without_refs (tenant_owner tenant) r) }
     {
         let Some(ids) = self.directory.remove(tenant) else {
@@ -123,7 +123,7 @@ impl<H: History> RefTable<H> {
     /// left. Their values are put behind these, so that the caller drops them; one that finds no
     /// room there is dropped at once. It takes a step for each version that was kept of a ref.
     pub fn drop_departed(&mut self, most: usize, values: &mut Vec<Value>) -> bool
-        ensures { (r : Refs) → TableStands H.stands self.old r → TableStands H.stands self.new r }
+        ensures { (r : TableRefs) → TableStands H.stands self.old r → TableStands H.stands self.new r }
     {
         for _done in 0..most {
             if self.departed.is_empty() {
@@ -135,7 +135,7 @@ impl<H: History> RefTable<H> {
     }
 
     fn drop_next(&mut self, values: &mut Vec<Value>)
-        ensures { (r : Refs) → TableStands H.stands self.old r → TableStands H.stands self.new r }
+        ensures { (r : TableRefs) → TableStands H.stands self.old r → TableStands H.stands self.new r }
     {
         if let Some(id) = self.departed.take() {
             self.history.take_ref(id, values);

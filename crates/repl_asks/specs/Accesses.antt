@@ -64,8 +64,8 @@ abbrev pub with_name : RefNameData → List RefNameData → List RefNameData
 with_name name names = if is_among name names then names else names ++ name ∷ []
 
 -- the value of a ref in the attempt is that of the last access that named it
-abbrev pub with_value : RefNameData → Datum → AttemptData → AttemptData
-with_value name d a = record a { value = λ n. if same_name name n then Some d else a.value n }
+abbrev pub with_ref_value : RefNameData → Datum → AttemptData → AttemptData
+with_ref_value name d a = record a { value = λ n. if same_name name n then Some d else a.value n }
 
 abbrev pub with_commute : RefNameData → CommuteData → AttemptData → AttemptData
 with_commute name c a = record a {
@@ -75,10 +75,10 @@ with_commute name c a = record a {
 
 -- one access more
 unfoldable pub noted : AccessData → AttemptData → AttemptData
-noted (got n d) a = with_value n d a
-noted (put n d) a = with_value n d (record a { sets = with_name n a.sets })
-noted (commuted n c d) a = with_value n d (with_commute n c a)
-noted (ensured n d) a = with_value n d (record a { ensured = with_name n a.ensured })
+noted (got n d) a = with_ref_value n d a
+noted (put n d) a = with_ref_value n d (record a { sets = with_name n a.sets })
+noted (commuted n c d) a = with_ref_value n d (with_commute n c a)
+noted (ensured n d) a = with_ref_value n d (record a { ensured = with_name n a.ensured })
 noted (sent s) a = record a { sends = a.sends ++ s ∷ [] }
 
 unfoldable pub attempt_value : RefNameData → AttemptData → Option Datum

@@ -13,7 +13,7 @@ use Rattle.repl_walker.specs.Agreeing.{IsToldBy, names_shared}
 use Rattle.ref_table.specs.Numbered.{Entry, part_under, without}
 use Rattle.ref_history.specs.Versioned.{Ref, readable, with_failed_read, with_least, with_most}
 use Rattle.ref_table.specs.Store.{Store, ref_of, ref_named, with_changed_ref}
-use Rattle.ref_table.specs.Calls.{performed, performed_begin, read_at, read_by, bound_set}
+use Rattle.ref_table.specs.Calls.{performed, performed_begin, read_at, read_by, performed_bound_set}
 use Rattle.ref_table.specs.Calls.{number_told, count_told}
 use Rattle.server_rules.specs.Asking.{call_of, answer_to}
 use Rattle.server_rules.specs.Machine.World.{TenantData, World}
@@ -116,7 +116,7 @@ bound-is bound None told e = absurd (none-some told e)
 bound-is bound (Some r) told e = sym (some-same (number_told (bound r)) told e)
 
 never-set : (name : RefNameData) (f : Ref → Ref) (s : Store) (r : Option Ref) (told : AnswerData)
-    → (bound_set name shared f s r).told ≡ Some told → ⊥
+    → (performed_bound_set name shared f s r).told ≡ Some told → ⊥
 never-set name f s None told e = none-some told e
 never-set name f s (Some r) told e = none-some told e
 
@@ -217,10 +217,10 @@ module _ (w : World) (t seat : ℕ) (kept : TenantData) (there : open_in t w ≡
       ∙ sym (ap (λ o. bound_told bound (slice_get (refs_in o w) name.number)) same)
 
   bound-unset : (f : Ref → Ref) (name : RefNameData) (told : AnswerData)
-      → (bound_set name name.owner f s (ref_named name s)).told ≡ Some told
+      → (performed_bound_set name name.owner f s (ref_named name s)).told ≡ Some told
       → is_shared name.owner ≡ true → ⊥
   bound-unset f name told e names = never-set name f s (ref_named name s) told
-      (ap (λ o. (bound_set name o f s (ref_named name s)).told)
+      (ap (λ o. (performed_bound_set name o f s (ref_named name s)).told)
       (sym (is-shared name.owner names)) ∙ e)
 
   pub asked-point : (g : Ground) (a : Actor) (ask : AskData) (told : AnswerData)

@@ -21,7 +21,7 @@ use Rattle.server_rules.specs.declared.actor.Actor.{Actor}
 use Rattle.repl_core.specs.Points.{shared_ref, told_at}
 use Rattle.repl_core.specs.AttemptsUnderWay.{begun_attempt, UnderWay}
 use Rattle.repl_core.specs.HonestRuns.{AreHonest}
-use Rattle.repl_core.specs.DosyncSettings.{Setting, body_in, IsAttemptAt}
+use Rattle.repl_core.specs.DosyncSettings.{DosyncSetting, body_in, IsAttemptAt}
 use Rattle.repl_core.specs.AttemptsInRuns.{names_ref, is_named_in, AttemptsInRunsAgree}
 use Rattle.repl_core.proofs.SharedRefs.{shown_in, run-shows}
 use Rattle.repl_core.proofs.AskedPoints.{is-shared}
@@ -132,7 +132,7 @@ module _ (g : Ground) (steps other_steps : List Step) (n : ℕ) where
 -- An attempt asks what its body asks
 
 body_in-asks : (g : Ground) (steps : List Step) (t : ℕ) (a : Actor)
-    (d : Setting) (printed : List ℕ) → AreHonest g (opened_world g) t a steps
+    (d : DosyncSetting) (printed : List ℕ) → AreHonest g (opened_world g) t a steps
     → (x : UnderWay (run g (opened_world g) steps) t a)
     → IsAttemptAt g x.form x.before d printed
     → AsksThese (standing_after printed [] (body_in d)) x.since

@@ -17,7 +17,7 @@ use Rattle.server_rules.specs.Machine.World as worlds
 use Rattle.server_rules.specs.Machine.World.{is_used, open_count, open_step, step, accepted, refused}
 use Rattle.server_rules.specs.declared.refusal.Refusal.{Refusal}
 use Rattle.ref_history.specs.RingHistories.{RingStands}
-use Rattle.ref_table.specs.Refs.{Refs, without_refs}
+use Rattle.ref_table.specs.Refs.{TableRefs, without_refs}
 use Rattle.ref_table.specs.Standing as refs
 use Rattle.tenant_parts.proofs.EntryLaws.{found_first}
 use Rattle.tenant_parts.specs.Serving.{RingRefTable}
@@ -147,7 +147,7 @@ does-open g w t old ts code s reached full stands put others =
 
 -- Going
 
-sound-without : (r : Refs) (t : ℕ) → AreSound r → AreSound (without_refs (tenant t) r)
+sound-without : (r : TableRefs) (t : ℕ) → AreSound r → AreSound (without_refs (tenant t) r)
 sound-without r t sound = λ owner. by owner (same_owner owner (tenant t))
   where
     by : (owner : OwnerData) (b : Bool)
@@ -162,7 +162,7 @@ machine_less m ts table n = record m { tenants = ts; refs = table; places_taken 
 pub does-close : (g : Ground) (w : World) (t n : ℕ) (old : Machine) (ts : Tenants) (table : RingRefTable)
     (was : Tenant) (s : MachineStands g old w) → tenant_at old.tenants t ≡ Some was
     → tenant_at ts t ≡ None → ((u : ℕ) → u ≢ t → tenant_at ts u ≡ tenant_at old.tenants u)
-    → ((r : Refs) → refs.TableStands RingStands old.refs r
+    → ((r : TableRefs) → refs.TableStands RingStands old.refs r
     → refs.TableStands RingStands table (without_refs (tenant t) r))
     → n ≡ old.places_taken - 1
     → AcceptsStep g w (closes t) (machine_less old ts table n) tenant_gone

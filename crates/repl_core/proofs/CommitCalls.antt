@@ -22,7 +22,7 @@ use Rattle.value_data.specs.Same.{same_owner}
 use Rattle.ref_table.specs.Commit.{all_folded, with_changes, with_raised_counter, with_all}
 use Rattle.ref_table.specs.Commit.{concluded_commit, checked_commit, commit_by}
 use Rattle.ref_table.specs.Calls.{performed_make, performed_begin, read_at, read_by}
-use Rattle.ref_table.specs.Calls.{bound_set, nothing, inside, performed}
+use Rattle.ref_table.specs.Calls.{performed_bound_set, nothing, inside, performed}
 use Rattle.server_rules.specs.Asking.{call_of, may_send_call}
 use Rattle.server_rules.proofs.Sound.{version_with}
 use Rattle.ref_table.proofs.Owners.{some-same, none-some, slice_get-changed, slice_get-added}
@@ -256,7 +256,7 @@ read-newest name other seat s (Some point) (Some r) = by (readable point r)
 
 bound-newest : (name other : RefNameData) (owner : OwnerData) (f : Ref → Ref) (s : Store)
     (o : Option Ref) → ((r : Ref) → newest (f r).versions ≡ newest r.versions)
-    → newest_at name (bound_set other owner f s o).store ≡ newest_at name s
+    → newest_at name (performed_bound_set other owner f s o).store ≡ newest_at name s
 bound-newest name other owner f s None keeps = refl
 bound-newest name other shared f s (Some r) keeps = refl
 bound-newest name other (tenant t) f s (Some r) keeps = kept-newest name other f s keeps

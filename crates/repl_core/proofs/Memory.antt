@@ -17,7 +17,7 @@ use Rattle.server_rules.specs.Ending.{end_of}
 use Rattle.server_rules.specs.Honest.{honest_deed, honest_at, honest_of, honest_in, honest_by}
 use Rattle.server_rules.specs.declared.actor.Actor.{Actor}
 use Rattle.server_rules.specs.declared.refusal.Refusal.{Refusal}
-use Rattle.ref_table.specs.Refs.{Refs}
+use Rattle.ref_table.specs.Refs.{TableRefs}
 use Rattle.server_rules.specs.LoneTurns.{LoneTenant}
 use Rattle.tenant_world.specs.Running.{running_in}
 use Rattle.tenant_world.proofs.Standing.{worn-by, starts-by, asks-by, ends-by}
@@ -59,7 +59,7 @@ honest-worn g l a none = by (part_under (seat_of a) l.state.actors)
     by None = begun
     by (Some actor) = in_hand actor.hand
 
-pub refused-worn : (g : Ground) (l : LoneTenant) (r : Refs) (a : Actor) (p : Parts) → p.tenant.steps ≡ 0
+pub refused-worn : (g : Ground) (l : LoneTenant) (r : TableRefs) (a : Actor) (p : Parts) → p.tenant.steps ≡ 0
     → PartsStand g p l r
     → RefusesHonestDeed g l r (honest_deed g a (Some (Some l.state))) p Refusal.Worn
 refused-worn g l r a p none s = record {

@@ -10,7 +10,7 @@ use Rattle.ref_table.specs.Numbered.{part_under, with_part}
 use Rattle.ref_table.specs.Store.{Around, Store}
 use Rattle.server_rules.specs.Tenant.{TenantState}
 use Rattle.server_rules.specs.Machine.World.{TenantData, World}
-use Rattle.ref_table.specs.Refs.{Refs, refs_after}
+use Rattle.ref_table.specs.Refs.{TableRefs, refs_after}
 use Rattle.tenant_parts.specs.Attempts.{ArePoints}
 use Rattle.tenant_parts.specs.Serving.{TableServes}
 use Rattle.repl_core.proofs.Runs.{part_under-put}
@@ -42,7 +42,7 @@ world-stands g code q s new same points st = record {
 }
 
 -- a tenant behind its step
-pub tenant-stands : (g : Ground) (r : Refs) (t : ℕ) (code : Tenant) (q : TenantState) (s : Store)
+pub tenant-stands : (g : Ground) (r : TableRefs) (t : ℕ) (code : Tenant) (q : TenantState) (s : Store)
     → s.tenant ≡ t → s.mine.refs ≡ r.owned (tenant t) → world.StandsForState g code q s
     → TenantStands g r t code (record { state = q; mine = s.mine })
 tenant-stands g r t code q s same refs st = record {
@@ -78,19 +78,19 @@ there-none (Some code) is = absurd (true≢false is)
 
 -- One place
 
-pub place-of : (g : Ground) (r : Refs) (t : ℕ) (code : Tenant) (kept : TenantData)
+pub place-of : (g : Ground) (r : TableRefs) (t : ℕ) (code : Tenant) (kept : TenantData)
     (o : Option Tenant) (p : Option TenantData) → o ≡ Some code → p ≡ Some kept
     → TenantStands g r t code kept → PlaceStands g r t o p
 place-of g r t code kept o p same is it =
     subst (λ x. PlaceStands g r t x p) (sym same)
     (subst (PlaceStands g r t (Some code)) (sym is) it)
 
-pub place-none : (g : Ground) (r : Refs) (t : ℕ) (o : Option Tenant) (p : Option TenantData)
+pub place-none : (g : Ground) (r : TableRefs) (t : ℕ) (o : Option Tenant) (p : Option TenantData)
     → o ≡ None → p ≡ None → r.owned (tenant t) ≡ [] → PlaceStands g r t o p
 place-none g r t o p same is it =
     subst (λ x. PlaceStands g r t x p) (sym same) (subst (PlaceStands g r t None) (sym is) it)
 
-pub place-still : (g : Ground) (r new : Refs) (t : ℕ) (o : Option Tenant) (p : Option TenantData)
+pub place-still : (g : Ground) (r new : TableRefs) (t : ℕ) (o : Option Tenant) (p : Option TenantData)
     → new.owned (tenant t) ≡ r.owned (tenant t) → PlaceStands g r t o p → PlaceStands g new t o p
 place-still g r new t None None same it = same ∙ it
 place-still g r new t None (Some kept) same it = it
@@ -100,7 +100,7 @@ place-still g r new t (Some code) (Some kept) same it = record {
   refs = it.refs ∙ sym same;
 }
 
-pub place-moved : (g : Ground) (r new : Refs) (t : ℕ) (o x : Option Tenant)
+pub place-moved : (g : Ground) (r new : TableRefs) (t : ℕ) (o x : Option Tenant)
     (p y : Option TenantData) → x ≡ o → y ≡ p → new.owned (tenant t) ≡ r.owned (tenant t)
     → PlaceStands g r t o p → PlaceStands g new t x y
 place-moved g r new t o x p y same is refs it =
@@ -108,34 +108,34 @@ place-moved g r new t o x p y same is refs it =
     (subst (PlaceStands g new t o) (sym is) (place-still g r new t o p refs it))
 
 -- the tenant of the rules that stands there
-kept-some : (g : Ground) (r : Refs) (t : ℕ) (code : Tenant) (p : Option TenantData)
+kept-some : (g : Ground) (r : TableRefs) (t : ℕ) (code : Tenant) (p : Option TenantData)
     → PlaceStands g r t (Some code) p
     → (kept : TenantData) × (p ≡ Some kept) × TenantStands g r t code kept
 kept-some g r t code None it = absurd (it)
 kept-some g r t code (Some kept) it = (kept, refl, it)
 
-pub kept-at : (g : Ground) (r : Refs) (t : ℕ) (code : Tenant) (o : Option Tenant)
+pub kept-at : (g : Ground) (r : TableRefs) (t : ℕ) (code : Tenant) (o : Option Tenant)
     (p : Option TenantData) → PlaceStands g r t o p → o ≡ Some code
     → (kept : TenantData) × (p ≡ Some kept) × TenantStands g r t code kept
 kept-at g r t code o p it same =
     kept-some g r t code p (subst (λ x. PlaceStands g r t x p) same it)
 
-none-there : (g : Ground) (r : Refs) (t : ℕ) (p : Option TenantData) → PlaceStands g r t None p
+none-there : (g : Ground) (r : TableRefs) (t : ℕ) (p : Option TenantData) → PlaceStands g r t None p
     → p ≡ None
 none-there g r t None it = refl
 none-there g r t (Some kept) it = absurd (it)
 
-pub none-at : (g : Ground) (r : Refs) (t : ℕ) (o : Option Tenant) (p : Option TenantData)
+pub none-at : (g : Ground) (r : TableRefs) (t : ℕ) (o : Option Tenant) (p : Option TenantData)
     → PlaceStands g r t o p → o ≡ None → p ≡ None
 none-at g r t o p it e = none-there g r t p (subst (λ x. PlaceStands g r t x p) e it)
 
 -- and where none of the rules stands there
-refs-there : (g : Ground) (r : Refs) (t : ℕ) (o : Option Tenant) → PlaceStands g r t o None
+refs-there : (g : Ground) (r : TableRefs) (t : ℕ) (o : Option Tenant) → PlaceStands g r t o None
     → r.owned (tenant t) ≡ []
 refs-there g r t None it = it
 refs-there g r t (Some x) it = absurd (it)
 
-pub refs-none : (g : Ground) (r : Refs) (t : ℕ) (o : Option Tenant) (p : Option TenantData)
+pub refs-none : (g : Ground) (r : TableRefs) (t : ℕ) (o : Option Tenant) (p : Option TenantData)
     → PlaceStands g r t o p → p ≡ None → r.owned (tenant t) ≡ []
 refs-none g r t o p it e = refs-there g r t o (subst (PlaceStands g r t o) e it)
 
@@ -166,13 +166,13 @@ open-mine w around t x y there =
     ((part_under-put t t x (Some y) w.tenants (found-open (part_under t w.tenants) y there)).0 refl)
 
 -- the refs of each, once a tenant sees this
-pub owned-others : (s : Store) (r : Refs) (t u : ℕ) → s.tenant ≡ t → (u == t) ≡ false
+pub owned-others : (s : Store) (r : TableRefs) (t u : ℕ) → s.tenant ≡ t → (u == t) ≡ false
     → (refs_after s r).owned (tenant u) ≡ r.owned (tenant u)
 owned-others s r t u same apart =
     ap (λ k. if u == k then s.mine.refs else r.owned (tenant u)) same
     ∙ ap (λ (b : Bool). if b then s.mine.refs else r.owned (tenant u)) apart
 
-pub owned-mine : (s : Store) (r : Refs) (t : ℕ) → s.tenant ≡ t
+pub owned-mine : (s : Store) (r : TableRefs) (t : ℕ) → s.tenant ≡ t
     → s.mine.refs ≡ (refs_after s r).owned (tenant t)
 owned-mine s r t same =
     sym (ap (λ k. if t == k then s.mine.refs else r.owned (tenant t)) same

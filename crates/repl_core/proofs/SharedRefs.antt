@@ -16,10 +16,10 @@ use Rattle.ref_table.specs.Store.{changed_of}
 use Rattle.ref_table.specs.Commit.{guarded_refs, touched_refs, all_there, intent_fits, any_newer}
 use Rattle.ref_table.specs.Commit.{all_folded, with_changes, with_raised_counter, with_all}
 use Rattle.ref_table.specs.Commit.{concluded_commit, checked_commit, commit_by}
-use Rattle.ref_table.specs.Calls.{Call, nothing, makes, begins, leaves_attempt, reads, counts}
+use Rattle.ref_table.specs.Calls.{StoreCall, nothing, makes, begins, leaves_attempt, reads, counts}
 use Rattle.ref_table.specs.Calls.{inside, outside}
 use Rattle.ref_table.specs.Calls.{tells_least, tells_most, sets_least, sets_most, commits}
-use Rattle.ref_table.specs.Calls.{gives_up, performed_begin, read_at, read_by, bound_set}
+use Rattle.ref_table.specs.Calls.{gives_up, performed_begin, read_at, read_by, performed_bound_set}
 use Rattle.ref_table.specs.Calls.{given_up, performed}
 use Rattle.server_rules.specs.Ground.{Ground}
 use Rattle.server_rules.specs.Plan.{Deed, Outcome, refuses, leaves}
@@ -121,12 +121,12 @@ read-shows point seat name s (Some p) (Some r) = by (readable p r)
 
 -- nobody sets the bounds of a shared ref
 bound-shows : (point : ℕ) (name : RefNameData) (f : Ref → Ref) (s : Store) (r : Option Ref)
-    → ShowsAt point s.around (bound_set name name.owner f s r).store.around
+    → ShowsAt point s.around (performed_bound_set name name.owner f s r).store.around
 bound-shows point name f s None = shows-same point s.around
 bound-shows point name f s (Some r) = by name.owner refl
   where
     by : (o : OwnerData) → name.owner ≡ o
-        → ShowsAt point s.around (bound_set name o f s (Some r)).store.around
+        → ShowsAt point s.around (performed_bound_set name o f s (Some r)).store.around
     by shared is = shows-same point s.around
     by (tenant t) is =
         subst (λ o. ShowsAt point s.around (changed_of o name.number f s).around) (sym is)
@@ -155,7 +155,7 @@ given_up-shows : (point seat : ℕ) (s : Store) (told : Option AnswerData)
 given_up-shows point seat s None = shows-same point s.around
 given_up-shows point seat s (Some answer) = shows-same point s.around
 
-call-shows : (point : ℕ) (s : Store) (call : Call) → point ≤ s.around.counter
+call-shows : (point : ℕ) (s : Store) (call : StoreCall) → point ≤ s.around.counter
     → ShowsAt point s.around (performed s call).store.around
 call-shows point s nothing reached = shows-same point s.around
 call-shows point s (makes d least most) reached = shows-same point s.around

@@ -14,7 +14,7 @@ use Rattle.repl_asks.specs.Exchange.{AskData, AnswerData}
 use Rattle.server_rules.specs.Deeds.{drain_outcome}
 use Rattle.server_rules.specs.declared.actor.Actor.{Actor}
 use Rattle.server_rules.specs.declared.refusal.Refusal.{Refusal}
-use Rattle.ref_table.specs.Refs.{Refs, refs_after}
+use Rattle.ref_table.specs.Refs.{TableRefs, refs_after}
 use Rattle.tenant_parts.specs.Serving.{RingRefTable, TableServes}
 use Rattle.server_rules.specs.DeedResult.{deed_result}
 use Rattle.server_rules.specs.LoneTurns.{LoneTenant}
@@ -32,7 +32,7 @@ use Rattle.repl_core.proofs.WalkSteps.{walked-all, some-same}
 use Rattle.repl_core.proofs.Stores.{Reached, serves-all-still, hears-reached, drains-reached}
 
 -- an actor's step, behind which no evaluation of it is kept
-pub does-removed : (g : Ground) (l : LoneTenant) (r : Refs) (deed : Deed) (a : Actor) (old new : Parts)
+pub does-removed : (g : Ground) (l : LoneTenant) (r : TableRefs) (deed : Deed) (a : Actor) (old new : Parts)
     (answer : StepAnswer) → PartsStand g old l r
     → world.AcceptsDeedBy g a l.state (comes_to g l deed) new.tenant answer
     → TableServes new.table (comes_to g l deed).store (refs_after (comes_to g l deed).store r)
@@ -56,7 +56,7 @@ does-removed g l r deed a old new answer s does serves gone others = record {
 }
 
 -- the evaluations are others, and walked as well
-pub stands-found : (g : Ground) (l : LoneTenant) (r : Refs) (tenant : Tenant) (table : RingRefTable)
+pub stands-found : (g : Ground) (l : LoneTenant) (r : TableRefs) (tenant : Tenant) (table : RingRefTable)
     (old new : Walks) → PartsStand g (parts tenant table old) l r
     → (AreWalked (walk_at old) l.state → AreWalked (walk_at new) l.state)
     → PartsStand g (parts tenant table new) l r
@@ -69,7 +69,7 @@ stands-found g l r tenant table old new s found = record {
 }
 
 -- refused for want of memory
-pub refused-memory : {X : Type 0} (g : Ground) (l : LoneTenant) (r : Refs) (deed : Deed) (p : Parts)
+pub refused-memory : {X : Type 0} (g : Ground) (l : LoneTenant) (r : TableRefs) (deed : Deed) (p : Parts)
     (res : Result X Refusal) → IsErrAnd res (λ e. e ≡ Refusal.NoMemory) → PartsStand g p l r
     → IfErr res (RefusesHonestDeed g l r deed p)
 refused-memory g l r deed p (Ok x) is s = tt
@@ -79,14 +79,14 @@ refused-memory g l r deed p (Err e) is s = record {
 }
 
 -- the table, where the deed leaves the refs
-pub serves-same : (g : Ground) (l : LoneTenant) (r : Refs) (deed : Deed) (old : Parts) (s : PartsStand g old l r)
+pub serves-same : (g : Ground) (l : LoneTenant) (r : TableRefs) (deed : Deed) (old : Parts) (s : PartsStand g old l r)
     → Reached l.store (comes_to g l deed).store
     → TableServes old.table (comes_to g l deed).store (refs_after (comes_to g l deed).store r)
 serves-same g l r deed old s reached =
     serves-all-still old.table l.store (comes_to g l deed).store r s.serves reached
 
 -- a refused step
-pub refused-parts : {X : Type 0} (g : Ground) (l : LoneTenant) (r : Refs) (deed : Deed) (old : Parts)
+pub refused-parts : {X : Type 0} (g : Ground) (l : LoneTenant) (r : TableRefs) (deed : Deed) (old : Parts)
     (tenant : Tenant) (table : RingRefTable) (why : Refusal) (res : Result X Refusal) (s : PartsStand g old l r)
     → IsErrAnd res (λ e. e ≡ why)
     → world.RefusesDeed g l.state l.store (comes_to g l deed) tenant why
@@ -106,7 +106,7 @@ refused-parts g l r deed old tenant table why (Err e) s is told serves =
     })
 
 -- a piece that was heard
-pub does-heard : (g : Ground) (l : LoneTenant) (r : Refs) (piece : List ℕ) (old : Parts) (tenant : Tenant)
+pub does-heard : (g : Ground) (l : LoneTenant) (r : TableRefs) (piece : List ℕ) (old : Parts) (tenant : Tenant)
     (count : ℕ) → PartsStand g old l r
     → world.AcceptsDeed g (comes_to g l (deeds.hears piece)) tenant (messages_heard count)
     → AcceptsHonestDeed g l r (deeds.hears piece) (parts tenant old.table old.walks)
@@ -144,7 +144,7 @@ unfolding deed_result
 drains-by g l = refl
 
 -- a reply was taken out
-pub does-drained : (g : Ground) (l : LoneTenant) (r : Refs) (old : Parts) (tenant : Tenant)
+pub does-drained : (g : Ground) (l : LoneTenant) (r : TableRefs) (old : Parts) (tenant : Tenant)
     (answer : StepAnswer) → PartsStand g old l r
     → world.AcceptsDeed g (comes_to g l deeds.drains) tenant answer
     → AcceptsHonestDeed g l r deeds.drains (parts tenant old.table old.walks)
@@ -181,7 +181,7 @@ put-others a b mid new (Ok x) others stays apart = others b apart
 put-others a b mid new (Err e) others stays apart = stays b
 
 -- an ask that was answered
-pub does-resumed : (g : Ground) (l : LoneTenant) (r : Refs) (a : Actor) (old new : Parts) (ask : AskData)
+pub does-resumed : (g : Ground) (l : LoneTenant) (r : TableRefs) (a : Actor) (old new : Parts) (ask : AskData)
     (answer : AnswerData) (run : Run) → PartsStand g old l r → running_in a l.state ≡ Some run
     → world.AcceptsDeedBy g a l.state (comes_to g l (deeds.asks_for a ask)) new.tenant (ask_answered answer)
     → let d = comes_to g l (deeds.asks_for a ask) in
@@ -210,12 +210,12 @@ does-resumed g l r a old new ask answer run s runs does serves mine others =
     }
 
 -- a deed that is the same
-pub does-as : {X : Type 0} (g : Ground) (l : LoneTenant) (r : Refs) (deed honest : Deed) (p : Parts)
+pub does-as : {X : Type 0} (g : Ground) (l : LoneTenant) (r : TableRefs) (deed honest : Deed) (p : Parts)
     (res : Result X Refusal) → deed ≡ honest → OnOk res (AcceptsHonestDeed g l r deed p)
     → OnOk res (AcceptsHonestDeed g l r honest p)
 does-as g l r deed honest p res is does = subst (λ d. OnOk res (AcceptsHonestDeed g l r d p)) is does
 
-pub refuses-as : {X : Type 0} (g : Ground) (l : LoneTenant) (r : Refs) (deed honest : Deed) (p : Parts)
+pub refuses-as : {X : Type 0} (g : Ground) (l : LoneTenant) (r : TableRefs) (deed honest : Deed) (p : Parts)
     (res : Result X Refusal) → deed ≡ honest → IfErr res (RefusesHonestDeed g l r deed p)
     → IfErr res (RefusesHonestDeed g l r honest p)
 refuses-as g l r deed honest p res is told = subst (λ d. IfErr res (RefusesHonestDeed g l r d p)) is told

@@ -13,7 +13,7 @@ use Rattle.server_rules.specs.Deeds.{for_actor, start_of}
 use Rattle.server_rules.specs.Ending.{end_of, end_running, end_compared, with_left_attempt}
 use Rattle.server_rules.specs.Starting.{interrupted_in}
 use Rattle.server_rules.specs.declared.actor.Actor.{Actor}
-use Rattle.ref_table.specs.Refs.{Refs, store_of, refs_after}
+use Rattle.ref_table.specs.Refs.{TableRefs, store_of, refs_after}
 use Rattle.tenant_parts.specs.Serving.{RingRefTable, TableServes}
 use Rattle.tenant_parts.proofs.Serving.{refs_after-seen}
 use Rattle.server_rules.specs.DeedResult.{carried_out, deed_result}
@@ -30,7 +30,7 @@ reached-all : (s : Store) → Reached s s
 reached-all s = record { around = refl; tenant = refl; refs = refl }
 
 -- the table serves it as before
-pub serves-still : (table : RingRefTable) (old new : Store) (r : Refs) → TableServes table old r
+pub serves-still : (table : RingRefTable) (old new : Store) (r : TableRefs) → TableServes table old r
     → Reached old new → TableServes table new r
 serves-still table old new r serves same =
     let with_points : Store → Store = λ s. record {
@@ -58,7 +58,7 @@ serves-still table old new r serves same =
     }
 
 -- and all refs are as they were
-pub refs-still : (old new : Store) (r : Refs) → old ≡ store_of old.tenant old.mine.points r
+pub refs-still : (old new : Store) (r : TableRefs) → old ≡ store_of old.tenant old.mine.points r
     → Reached old new → refs_after new r ≡ r
 refs-still old new r seen same =
     ap (λ x. refs_after (record new { around = x }) r) same.around
@@ -71,7 +71,7 @@ refs-still old new r seen same =
     ∙ refs_after-seen old r seen
 
 -- the table serves it as before, and stands for the same refs
-pub serves-all-still : (table : RingRefTable) (old new : Store) (r : Refs) → TableServes table old r
+pub serves-all-still : (table : RingRefTable) (old new : Store) (r : TableRefs) → TableServes table old r
     → Reached old new → TableServes table new (refs_after new r)
 serves-all-still table old new r serves same =
     subst (TableServes table new) (sym (refs-still old new r serves.reached same))

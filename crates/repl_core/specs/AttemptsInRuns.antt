@@ -12,7 +12,7 @@ use Rattle.server_rules.specs.declared.actor.Actor.{Actor}
 use Rattle.repl_core.specs.Commits.{ref_in_world}
 use Rattle.repl_core.specs.Points.{held_at, shared_ref}
 use Rattle.repl_core.specs.AttemptsUnderWay.{UnderWay}
-use Rattle.repl_core.specs.DosyncSettings.{Setting, body_in, IsAttemptAt}
+use Rattle.repl_core.specs.DosyncSettings.{DosyncSetting, body_in, IsAttemptAt}
 use Rattle.repl_core.specs.HonestRuns.{AreHonest}
 
 -- whether an ask names the ref: in a body none commits
@@ -40,7 +40,7 @@ HeldTheSame w point xs v other ys =
 -- begin those that the other saw.
 abbrev pub AttemptsAgree : Ground → World → ℕ → Actor → World → ℕ → Actor → Type 0
 AttemptsAgree g w t a v u b =
-    (d : Setting) (printed other : List ℕ) (x : UnderWay w t a) (y : UnderWay v u b)
+    (d : DosyncSetting) (printed other : List ℕ) (x : UnderWay w t a) (y : UnderWay v u b)
     → IsAttemptAt g x.form x.before d printed → IsAttemptAt g y.form y.before d other
     → OneBegins (own_answers x.since) (own_answers y.since)
     → HeldTheSame w x.point x.since v y.point y.since

@@ -7,7 +7,7 @@ use Rattle.ref_table.specs.Numbered.{part_under}
 use Rattle.ref_table.specs.Store.{Around, Own, Store}
 use Rattle.server_rules.specs.Machine.World.{TenantData, World, is_used, open_count}
 use Rattle.ref_history.specs.RingHistories.{RingStands}
-use Rattle.ref_table.specs.Refs.{Refs}
+use Rattle.ref_table.specs.Refs.{TableRefs}
 use Rattle.ref_table.specs.Standing as table
 use Rattle.tenant_parts.specs.Sound.{AreSound}
 use Rattle.tenant_world.specs.Standing as world
@@ -24,18 +24,18 @@ abbrev pub store_in : Around → ℕ → Own → Store
 store_in around t mine = record { around = around; tenant = t; mine = mine }
 
 -- what all tenants have in common
-abbrev pub around_in : Refs → Around
+abbrev pub around_in : TableRefs → Around
 around_in r = record { counter = r.counter; refs = r.owned shared }
 
 -- the tenant of the code is that of the rules, and its refs are those of the table
-pub record TenantStands (g : Ground) (r : Refs) (t : ℕ) (code : Tenant) (kept : TenantData)
+pub record TenantStands (g : Ground) (r : TableRefs) (t : ℕ) (code : Tenant) (kept : TenantData)
     : Type 0 where
   pub stands : (around : Around) → world.StandsForState g code kept.state
       (store_in around t kept.mine)
   pub refs : kept.mine.refs ≡ r.owned (tenant t)
 
 -- a tenant that is not open has no refs
-abbrev pub PlaceStands : Ground → Refs → ℕ → Option Tenant → Option TenantData → Type 0
+abbrev pub PlaceStands : Ground → TableRefs → ℕ → Option Tenant → Option TenantData → Type 0
 PlaceStands g r t None None = r.owned (tenant t) ≡ []
 PlaceStands g r t None (Some kept) = ⊥
 PlaceStands g r t (Some code) None = ⊥
@@ -52,7 +52,7 @@ pub record MachineStands (g : Ground) (m : Machine) (w : World) : Type 0 where
   pub steps : g.steps ≡ m.steps
   pub retries : g.retries ≡ m.retries
   pub places : g.places ≡ m.places
-  pub refs : Refs
+  pub refs : TableRefs
   pub table : table.TableStands RingStands m.refs refs
   pub sound : AreSound refs
   pub around : w.around ≡ around_in refs

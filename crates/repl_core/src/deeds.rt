@@ -109,7 +109,7 @@ impl Machine {
         let Some(tenant) = self.tenants.get_mut(number) else {
             return Err(Refusal::NoSuchTenant);
         };
-        let parts = world::Ending {
+        let parts = world::EndedEvaluation {
             job: ending.job(),
             trace: ending.trace(),
             finished: ending.end(),

@@ -6,7 +6,7 @@ ghost use Rattle.server_rules.specs.Ground.{Ground};
 ghost use Rattle.server_rules.specs.Tenant.{seat_of};
 ghost use Rattle.server_rules.specs.Plan as deeds;
 ghost use Rattle.server_rules.specs.Request as rules;
-ghost use Rattle.ref_table.specs.Refs.{Refs};
+ghost use Rattle.ref_table.specs.Refs.{TableRefs};
 ghost use Rattle.ref_table.specs.Standing.{counter_of};
 ghost use Rattle.server_rules.specs.Grounds.{IsRight};
 ghost use Rattle.server_rules.specs.LoneTurns.{LoneTenant};
@@ -76,13 +76,13 @@ impl Walks {
         refs: &RefTable<RingHistory>,
         actor: Actor,
     ) -> Result<(), Refusal>
-        ensures done { (g : Ground) (l : LoneTenant) (r : Refs) → IsRight g
+        ensures done { (g : Ground) (l : LoneTenant) (r : TableRefs) → IsRight g
             → PartsStand g (parts tenant.old refs.now self.old) l r → OnOk result
             (AcceptsHonestDeed g l r (deeds.starts actor) (parts tenant.new refs.now self.new)) }
-        ensures refused { (g : Ground) (l : LoneTenant) (r : Refs) → IsRight g
+        ensures refused { (g : Ground) (l : LoneTenant) (r : TableRefs) → IsRight g
             → PartsStand g (parts tenant.old refs.now self.old) l r → IfErr result
             (RefusesHonestDeed g l r (deeds.starts actor) (parts tenant.new refs.now self.new)) }
-        ensures no_memory { (g : Ground) (l : LoneTenant) (r : Refs) → IsRight g
+        ensures no_memory { (g : Ground) (l : LoneTenant) (r : TableRefs) → IsRight g
             → PartsStand g (parts tenant.old refs.now self.old) l r
             → result ≡ Err Refusal.NoMemory
             → is_accepted (comes_to g l (deeds.starts actor)).outcome ≡ true }
@@ -102,19 +102,19 @@ impl Walks {
     ) -> Result<(), Refusal>
         requires asks { IsAsking (walk_at self.old actor) }
         requires counter { counter_of refs.old < u128.MAX }
-        ensures done { (g : Ground) (l : LoneTenant) (r : Refs) (run : rules.Run) (w : Walk)
+        ensures done { (g : Ground) (l : LoneTenant) (r : TableRefs) (run : rules.Run) (w : Walk)
             → IsRight g
             → PartsStand g (parts tenant.old refs.old self.old) l r
             → running_in actor l.state ≡ Some run
             → walk_at self.old actor ≡ Some (Progress.Asks w)
             → OnOk result (AcceptsHonestDeed g l r (deeds.asks_for actor (ask_view w.ask))
             (parts tenant.new refs.new self.new)) }
-        ensures refused { (g : Ground) (l : LoneTenant) (r : Refs) (w : Walk) → IsRight g
+        ensures refused { (g : Ground) (l : LoneTenant) (r : TableRefs) (w : Walk) → IsRight g
             → PartsStand g (parts tenant.old refs.old self.old) l r
             → walk_at self.old actor ≡ Some (Progress.Asks w)
             → IfErr result (RefusesHonestDeed g l r (deeds.asks_for actor (ask_view w.ask))
             (parts tenant.new refs.new self.new)) }
-        ensures no_memory { (g : Ground) (l : LoneTenant) (r : Refs) (w : Walk)
+        ensures no_memory { (g : Ground) (l : LoneTenant) (r : TableRefs) (w : Walk)
             → PartsStand g (parts tenant.old refs.old self.old) l r
             → walk_at self.old actor ≡ Some (Progress.Asks w)
             → result ≡ Err Refusal.NoMemory
@@ -140,21 +140,21 @@ impl Walks {
         actor: Actor,
     ) -> Result<(), Refusal>
         requires { IsEnded (walk_at self.old actor) }
-        ensures done { (g : Ground) (l : LoneTenant) (r : Refs) (run : rules.Run)
+        ensures done { (g : Ground) (l : LoneTenant) (r : TableRefs) (run : rules.Run)
             (e : endings.Ending)
             → IsRight g → PartsStand g (parts tenant.old refs.now self.old) l r
             → running_in actor l.state ≡ Some run
             → walk_at self.old actor ≡ Some (Progress.Ends e) → OnOk result
             (AcceptsHonestDeed g l r (deeds.ends actor (walk_ended run e))
             (parts tenant.new refs.now self.new)) }
-        ensures refused { (g : Ground) (l : LoneTenant) (r : Refs) (run : rules.Run)
+        ensures refused { (g : Ground) (l : LoneTenant) (r : TableRefs) (run : rules.Run)
             (e : endings.Ending)
             → IsRight g → PartsStand g (parts tenant.old refs.now self.old) l r
             → running_in actor l.state ≡ Some run
             → walk_at self.old actor ≡ Some (Progress.Ends e) → IfErr result
             (RefusesHonestDeed g l r (deeds.ends actor (walk_ended run e))
             (parts tenant.new refs.now self.new)) }
-        ensures no_memory { (g : Ground) (l : LoneTenant) (r : Refs) (run : rules.Run)
+        ensures no_memory { (g : Ground) (l : LoneTenant) (r : TableRefs) (run : rules.Run)
             (e : endings.Ending) → IsRight g → PartsStand g (parts tenant.old refs.now self.old) l r
             → running_in actor l.state ≡ Some run
             → walk_at self.old actor ≡ Some (Progress.Ends e)

@@ -6,7 +6,7 @@ use Rattle.value_data.specs.Inside.View.{view, items_view}
 use Rattle.value_data.specs.declared.value.Value.{Value}
 use Rattle.repl_reader.specs.Reading.{Bracket, FormReading, begins, next_in, settled, opens, marks}
 use Rattle.repl_reader.specs.Reading.{drops}
-use Rattle.repl_reader.specs.Grammar.{Reads, plain, marked, marked_deep, opened, opened_deep, Row}
+use Rattle.repl_reader.specs.Grammar.{Reads, plain, marked, marked_deep, opened, opened_deep, ReadsRow}
 use Rattle.repl_reader.specs.Grammar.{last, more, form_or_fault, IsForm}
 use Rattle.repl_reader.specs.Inside.View.{IsMarked, wraps, wraps_deep, IsOpened, encloses, encloses_deep}
 use Rattle.repl_reader.proofs.Owed.{Owed, owed_drops}
@@ -25,15 +25,15 @@ piece_opened depth text rest b _ e (encloses_deep h) = opened_deep depth text re
 
 -- one form more in a row
 module _ (depth : ℕ) (start text rest : List ℕ) (forms : List Value) (form : Value)
-    (rows : (ds : Items) (r : FormReading) → Row depth text ds r → Row depth start (onto (map view forms) ds) r) where
-  pub row_push : Reads depth text (begins (view form) rest) → (ds : Items) (r : FormReading) → Row depth rest ds r → Row depth start (onto (map view (forms ++ form ∷ [])) ds) r
+    (rows : (ds : Items) (r : FormReading) → ReadsRow depth text ds r → ReadsRow depth start (onto (map view forms) ds) r) where
+  pub row_push : Reads depth text (begins (view form) rest) → (ds : Items) (r : FormReading) → ReadsRow depth rest ds r → ReadsRow depth start (onto (map view (forms ++ form ∷ [])) ds) r
   row_push i ds r j =
       let whole = rows (item (view form) ds) r (more depth text rest (view form) ds r i j) in
       rw (map-push view forms form, onto_push (map view forms) (view form) ds) whole
 
 pub row_last : (depth : ℕ) (start text : List ℕ) (forms : List Value) (r : FormReading)
-    → ((ds : Items) (r : FormReading) → Row depth text ds r → Row depth start (onto (map view forms) ds) r)
-    → Reads depth text r → (IsForm r → ⊥) → Row depth start (items_view forms) r
+    → ((ds : Items) (r : FormReading) → ReadsRow depth text ds r → ReadsRow depth start (onto (map view forms) ds) r)
+    → Reads depth text r → (IsForm r → ⊥) → ReadsRow depth start (items_view forms) r
 row_last depth start text forms r rows i h = rw (← onto_none (map view forms)) (rows no_items r (last depth text r i h))
 
 -- forms that are to be dropped

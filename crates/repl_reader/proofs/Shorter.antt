@@ -17,7 +17,7 @@ use Rattle.repl_reader.specs.Reading.{closed, refused, with_leading_byte, conten
 use Rattle.repl_reader.specs.Reading.{string_of, is_escape, escape, token_or_fault, token_at}
 use Rattle.repl_reader.specs.Reading.{dispatch_at, is_unsupported, next_by, next_in_bare, next_in}
 use Rattle.repl_reader.specs.Grammar.{Reads, plain, marked, marked_deep, opened, opened_deep}
-use Rattle.repl_reader.specs.Grammar.{dropped, undropped, Row, last, more, form_or_fault}
+use Rattle.repl_reader.specs.Grammar.{dropped, undropped, ReadsRow, last, more, form_or_fault}
 use Rattle.repl_reader.specs.Grammar.{wrapped_reading, enclosed_reading, collection_reading}
 use Rattle.repl_reader.specs.Grammar.{unmatched, same_bracket}
 use Rattle.repl_reader.specs.Maps.{map_or_fault, map_of, paired}
@@ -230,6 +230,6 @@ mutual
   reads_shorter _ _ _ (undropped depth text after r e i h) =
       shorter_le _ _ (form_or_fault r) (le_of _ _ (next_shorter_is text _ e)) (wanted_shorter _ r (reads_shorter _ _ _ i))
 
-  pub row_shorter : (depth : ℕ) (text : List ℕ) (ds : Items) (r : FormReading) → Row depth text ds r → Shorter (length text) r
+  pub row_shorter : (depth : ℕ) (text : List ℕ) (ds : Items) (r : FormReading) → ReadsRow depth text ds r → Shorter (length text) r
   row_shorter _ _ _ _ (last depth text r i h) = reads_shorter _ _ _ i
   row_shorter _ _ _ _ (more depth text rest d ds r i j) = shorter_le _ _ r (le_of _ _ (reads_shorter _ _ _ i)) (row_shorter _ _ _ _ j)

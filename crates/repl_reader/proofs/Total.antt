@@ -6,7 +6,7 @@ use Rattle.value_data.specs.Datum.{Items, no_items, item}
 use Rattle.repl_reader.specs.Reading.{Bracket, FormReading, begins, closes, ends, breaks, Next}
 use Rattle.repl_reader.specs.Reading.{settled, opens, marks, drops, next_in}
 use Rattle.repl_reader.specs.Grammar.{Reads, plain, marked, marked_deep, opened, opened_deep}
-use Rattle.repl_reader.specs.Grammar.{dropped, undropped, Row, last, more, wrapped_reading}
+use Rattle.repl_reader.specs.Grammar.{dropped, undropped, ReadsRow, last, more, wrapped_reading}
 use Rattle.repl_reader.specs.Grammar.{enclosed_reading, nests_too_deep, most_nested}
 use Rattle.repl_reader.specs.Inside.Laws.{EveryTextReads}
 use Rattle.repl_reader.proofs.Shorter.{NextShorter, next_shorter, reads_shorter}
@@ -15,7 +15,7 @@ abbrev Found : ℕ → List ℕ → Type 0
 Found depth text = (r : FormReading) × Reads depth text r
 
 abbrev FoundRow : ℕ → List ℕ → Type 0
-FoundRow depth text = (ds : Items) × (r : FormReading) × Row depth text ds r
+FoundRow depth text = (ds : Items) × (r : FormReading) × ReadsRow depth text ds r
 
 -- all texts of less than a length, twice, are read
 abbrev Reach : ℕ → Type 0

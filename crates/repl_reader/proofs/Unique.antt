@@ -5,7 +5,7 @@ use Rattle.value_data.specs.Datum.{Datum, Items, no_items, item}
 use Rattle.repl_reader.specs.Reading.{Bracket, FormReading, begins, Next, settled, opens, marks}
 use Rattle.repl_reader.specs.Reading.{drops, next_in}
 use Rattle.repl_reader.specs.Grammar.{Reads, plain, marked, marked_deep, opened, opened_deep}
-use Rattle.repl_reader.specs.Grammar.{dropped, undropped, Row, last, more, IsForm, form_or_fault}
+use Rattle.repl_reader.specs.Grammar.{dropped, undropped, ReadsRow, last, more, IsForm, form_or_fault}
 use Rattle.repl_reader.specs.Grammar.{wrapped_reading, enclosed_reading, nests_too_deep, most_nested}
 use Rattle.repl_reader.specs.Grammar.{placed_option, last_break}
 use Rattle.repl_reader.specs.Inside.Laws.{ReadingsAreUnique}
@@ -14,7 +14,7 @@ use Rattle.repl_reader.specs.Inside.Laws.{ReadingsAreUnique}
 abbrev After : ℕ → Next → FormReading → Type 0
 After depth (settled s) r = r ≡ s
 After depth (opens b rest) r =
-    ((ds : Items) × (s : FormReading) × (depth < most_nested) × Row (depth + 1) rest ds s × (r ≡ enclosed_reading b ds s)) ⊎ ((most_nested ≤ depth) × (r ≡ nests_too_deep rest))
+    ((ds : Items) × (s : FormReading) × (depth < most_nested) × ReadsRow (depth + 1) rest ds s × (r ≡ enclosed_reading b ds s)) ⊎ ((most_nested ≤ depth) × (r ≡ nests_too_deep rest))
 After depth (marks name rest) r =
     ((s : FormReading) × (depth < most_nested) × Reads (depth + 1) rest s × (r ≡ wrapped_reading name s)) ⊎ ((most_nested ≤ depth) × (r ≡ nests_too_deep rest))
 After depth (drops rest) r =
@@ -34,9 +34,9 @@ after _ _ _ (undropped depth text rest r e i k) x h = along depth text (form_or_
 
 abbrev RowAfter : ℕ → List ℕ → Items → FormReading → Type 0
 RowAfter depth text no_items r = Reads depth text r × (IsForm r → ⊥)
-RowAfter depth text (item d ds) r = (rest : List ℕ) × Reads depth text (begins d rest) × Row depth rest ds r
+RowAfter depth text (item d ds) r = (rest : List ℕ) × Reads depth text (begins d rest) × ReadsRow depth rest ds r
 
-row_after : (depth : ℕ) (text : List ℕ) (ds : Items) (r : FormReading) → Row depth text ds r → RowAfter depth text ds r
+row_after : (depth : ℕ) (text : List ℕ) (ds : Items) (r : FormReading) → ReadsRow depth text ds r → RowAfter depth text ds r
 row_after _ _ _ _ (last depth text r i h) = (i, h)
 row_after _ _ _ _ (more depth text rest d ds r i j) = (rest, i, j)
 
@@ -45,7 +45,7 @@ abbrev Only : ℕ → List ℕ → FormReading → Type 0
 Only depth text r = (s : FormReading) → Reads depth text s → r ≡ s
 
 abbrev OnlyRow : ℕ → List ℕ → Items → FormReading → Type 0
-OnlyRow depth text ds r = (es : Items) (s : FormReading) → Row depth text es s → (ds ≡ es) × (r ≡ s)
+OnlyRow depth text ds r = (es : Items) (s : FormReading) → ReadsRow depth text es s → (ds ≡ es) × (r ≡ s)
 
 only_marked : (depth : ℕ) (name rest : List ℕ) (r s : FormReading) → depth < most_nested → Only (depth + 1) rest r → After depth (marks name rest) s → wrapped_reading name r ≡ s
 only_marked depth name rest r s k only (inl a) = ap (wrapped_reading name) (only a.0 a.2) ∙ sym a.3
@@ -91,7 +91,7 @@ only_more : (depth : ℕ) (text rest : List ℕ) (d : Datum) (ds : Items) (r : F
 only_more depth text rest d ds r no_items s first then_ a = absurd (a.1 (form_of (begins d rest) s (first s a.0) tt))
 only_more depth text rest d ds r (item e es) s first then_ a =
     let h = first (begins e a.0) a.1 in
-    let same = then_ es s (subst (λ (x : List ℕ). Row depth x es s) (sym (same_rest d e rest a.0 h)) a.2) in
+    let same = then_ es s (subst (λ (x : List ℕ). ReadsRow depth x es s) (sym (same_rest d e rest a.0 h)) a.2) in
     (ap (λ (x : Datum). item x ds) (same_form d e rest a.0 h) ∙ ap (item e) same.0, same.1)
 
 mutual
@@ -104,7 +104,7 @@ mutual
   only_reading _ _ _ (dropped depth text rest behind d r e i i') = λ s j. only_dropped depth rest behind d r s (only_reading _ _ _ i) (only_reading _ _ _ i') (after depth text s j _ e)
   only_reading _ _ _ (undropped depth text rest r e i k) = λ s j. only_undropped depth rest r s (only_reading _ _ _ i) k (after depth text s j _ e)
 
-  only_row : (depth : ℕ) (text : List ℕ) (ds : Items) (r : FormReading) → Row depth text ds r → OnlyRow depth text ds r
+  only_row : (depth : ℕ) (text : List ℕ) (ds : Items) (r : FormReading) → ReadsRow depth text ds r → OnlyRow depth text ds r
   only_row _ _ _ _ (last depth text r i k) = λ es s j. only_last depth text r es s (only_reading _ _ _ i) k (row_after depth text es s j)
   only_row _ _ _ _ (more depth text rest d ds r i i') = λ es s j. only_more depth text rest d ds r es s (only_reading _ _ _ i) (only_row _ _ _ _ i') (row_after depth text es s j)
 

@@ -87,7 +87,7 @@ mutual
         → Reads depth text (nests_too_deep more)
     -- forms up to a closing bracket
     opened : (depth : ℕ) (text more : List ℕ) (b : Bracket) (ds : Items) (r : FormReading)
-        → next_in text ≡ opens b more → depth < most_nested → Row (depth + 1) more ds r
+        → next_in text ≡ opens b more → depth < most_nested → ReadsRow (depth + 1) more ds r
         → Reads depth text (enclosed_reading b ds r)
     opened_deep : (depth : ℕ) (text more : List ℕ) (b : Bracket)
         → next_in text ≡ opens b more → most_nested ≤ depth
@@ -102,11 +102,12 @@ mutual
         → Reads depth text (form_or_fault r)
 
   -- these forms in a row, and then this, which is no form
-  pub data Row : ℕ → List ℕ → Items → FormReading → Type 0 where
+  pub data ReadsRow : ℕ → List ℕ → Items → FormReading → Type 0 where
     last : (depth : ℕ) (text : List ℕ) (r : FormReading)
-        → Reads depth text r → (IsForm r → ⊥) → Row depth text no_items r
+        → Reads depth text r → (IsForm r → ⊥) → ReadsRow depth text no_items r
     more : (depth : ℕ) (text rest : List ℕ) (d : Datum) (ds : Items) (r : FormReading)
-        → Reads depth text (begins d rest) → Row depth rest ds r → Row depth text (item d ds) r
+        → Reads depth text (begins d rest) → ReadsRow depth rest ds r
+        → ReadsRow depth text (item d ds) r
 
 -- the fault of a text of this length, by what stands after its last form: nothing closes outside of
 -- brackets
@@ -126,5 +127,5 @@ placed_option len (Some f) = Some (placed_fault len f)
 -- the forms of a whole text before its first fault, and that fault
 pub record IsReading (text : List ℕ) (ds : Items) (fault : Option FaultData) : Type 0 where
   pub after : FormReading
-  pub row : Row 0 text ds after
+  pub row : ReadsRow 0 text ds after
   pub found : fault ≡ placed_option (length text) (last_break after)

@@ -3,7 +3,7 @@ ghost use Rattle.std.specs.Prelude.{◌≡◌};
 ghost use Rattle.repl_reader.specs.Grammar.{closing, same_bracket};
 ghost use Rattle.repl_reader.specs.Inside.View.{bracket_view, mark_symbol};
 
-use crate::reading::{Bracket, Mark};
+use crate::reading::{Bracket, MacroCharacter};
 
 impl Bracket {
     pub(crate) fn closing(self) -> &'static str
@@ -28,13 +28,13 @@ impl Bracket {
     }
 }
 
-impl Mark {
+impl MacroCharacter {
     pub(crate) fn symbol(self) -> &'static str
         ensures { result.now ≡ mark_symbol self }
     {
         match self {
-            Mark::Quote => "quote",
-            Mark::Deref => "clojure.core/deref",
+            MacroCharacter::Quote => "quote",
+            MacroCharacter::Deref => "clojure.core/deref",
         }
     }
 }

@@ -7,7 +7,7 @@ ghost use Rattle.repl_reader.specs.Inside.View.{fault_view};
 ghost use Rattle.repl_reader.specs.Inside.View.{fault_option};
 
 use crate::fault::{Break, FaultKind, ReaderFault, break_with};
-use crate::nest::{Row, read_row};
+use crate::nest::{RowReading, read_row};
 use crate::reading::FormReading;
 use repl_values::Value;
 use std::alloc::{AllocError, Global};
@@ -24,7 +24,7 @@ pub fn read_all(alloc: Global, text: &str) -> Result<ProgramForms, AllocError>
     ensures { IfOk result (λ read. IsReading text.now (items_view read.forms.items)
         (fault_option read.fault)) }
 {
-    let Row { forms, after } = read_row(alloc, text, 0)?;
+    let RowReading { forms, after } = read_row(alloc, text, 0)?;
     let fault = match last_break(alloc, after)? {
         Some(fault) => Some(placed_fault(text.len(), fault)),
         None => None,

@@ -5,7 +5,7 @@ ghost use Rattle.value_data.specs.Keyed.{keys_of};
 ghost use Rattle.repl_reader.specs.Maps.{print_at, map_of, paired};
 ghost use Rattle.repl_reader.specs.Inside.View.{form_reading_view, AreEntries};
 
-use crate::entries::Entries;
+use crate::entries::MapEntries;
 use crate::fault::{FaultKind, break_with};
 use crate::reading::FormReading;
 use repl_values::{Built, Table, Value, copy, print_into};
@@ -32,7 +32,7 @@ pub(crate) fn read_map<'a>(
 
 /// The forms by turns, as keys and values: `None` where the last key has no value.
 #[tactic(auto, using(crate::proofs::Rows::pair_steps))]
-fn split_forms(alloc: Global, forms: Vec<Value>) -> Result<Option<Entries>, AllocError>
+fn split_forms(alloc: Global, forms: Vec<Value>) -> Result<Option<MapEntries>, AllocError>
     ensures { IfOk result (λ entries. AreEntries entries (paired (items_view forms.items))) }
 {
     let mut keys = Vec::new(alloc);
@@ -49,7 +49,7 @@ fn split_forms(alloc: Global, forms: Vec<Value>) -> Result<Option<Entries>, Allo
         }
     }
     match pending {
-        None => Ok(Some(Entries { keys, pairs })),
+        None => Ok(Some(MapEntries { keys, pairs })),
         Some(_) => Ok(None),
     }
 }
@@ -58,14 +58,14 @@ fn split_forms(alloc: Global, forms: Vec<Value>) -> Result<Option<Entries>, Allo
 #[tactic(auto, unfolding(crate::specs::Maps::map_of))]
 fn map_or_fault<'a>(
     alloc: Global,
-    entries: Entries,
+    entries: MapEntries,
     rest: &'a str,
 ) -> Result<FormReading<'a>, AllocError>
     requires { keys_of (pairs_view entries.pairs.items) ≡ items_view entries.keys.items }
     ensures { IfOk result (λ r. form_reading_view r
         ≡ map_of (Some (pairs_view entries.pairs.items)) rest.now) }
 {
-    let Entries { keys, pairs } = entries;
+    let MapEntries { keys, pairs } = entries;
     match Table::from_pairs(alloc, pairs)? {
         Built::Made(pairs) => Ok(FormReading::Form(Value::Map(pairs), rest)),
         Built::Repeats(place) => {

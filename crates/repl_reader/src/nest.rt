@@ -8,12 +8,12 @@ ghost use Rattle.repl_reader.specs.Grammar.{form_or_fault};
 ghost use Rattle.repl_reader.specs.Grammar.{wrapped_reading, collection_reading, enclosed_reading};
 ghost use Rattle.repl_reader.specs.Inside.View.{bracket_view, mark_symbol, form_reading_view};
 ghost use Rattle.repl_reader.specs.Inside.View.{IsFrontOf};
-ghost use Rattle.repl_reader.specs.Inside.View.{IsRow, IsMarked, IsOpened};
+ghost use Rattle.repl_reader.specs.Inside.View.{IsRowReading, IsMarked, IsOpened};
 
 use crate::fault::{FaultKind, break_with};
 use crate::maps::read_map;
 use crate::next::{Next, read_next};
-use crate::reading::{Bracket, FormReading, Mark};
+use crate::reading::{Bracket, FormReading, MacroCharacter};
 use repl_values::{Sequence, Value};
 use std::alloc::{AllocError, Global};
 use std::sync::ArcStr;
@@ -23,7 +23,7 @@ pub(crate) const MOST_NESTED: usize = 64;
 
 /// Forms in a row, and what stands after the last.
 #[derive(Drop)]
-pub(crate) struct Row<'a> {
+pub(crate) struct RowReading<'a> {
     pub forms: Vec<Value>,
     pub after: FormReading<'a>,
 }
@@ -36,8 +36,12 @@ enum Front<'a> {
 
 /// The forms that a text begins with, inside `depth` openings.
 #[cycle(nest)]
-pub(crate) fn read_row(alloc: Global, text: &str, depth: usize) -> Result<Row<'_>, AllocError>
-    ensures { IfOk result (λ row. IsRow depth text.now row) }
+pub(crate) fn read_row(
+    alloc: Global,
+    text: &str,
+    depth: usize,
+) -> Result<RowReading<'_>, AllocError>
+    ensures { IfOk result (λ row. IsRowReading depth text.now row) }
 {
     let mut forms = Vec::new(alloc);
     let mut text = text;
@@ -47,7 +51,7 @@ pub(crate) fn read_row(alloc: Global, text: &str, depth: usize) -> Result<Row<'_
                 forms.push(form)?;
                 text = rest;
             }
-            after => return Ok(Row { forms, after }),
+            after => return Ok(RowReading { forms, after }),
         }
     }
 }
@@ -109,7 +113,7 @@ fn read_front(alloc: Global, text: &str, depth: usize) -> Result<Front<'_>, Allo
 #[cycle(nest)]
 fn read_marked<'a>(
     alloc: Global,
-    mark: Mark,
+    mark: MacroCharacter,
     text: &'a str,
     depth: usize,
 ) -> Result<FormReading<'a>, AllocError>
@@ -178,7 +182,7 @@ fn unmatched(
 
 fn wrapped_reading<'a>(
     alloc: Global,
-    mark: Mark,
+    mark: MacroCharacter,
     reading: FormReading<'a>,
 ) -> Result<FormReading<'a>, AllocError>
     ensures { IfOk result (λ r. form_reading_view r
@@ -195,7 +199,7 @@ fn wrapped_reading<'a>(
     }
 }
 
-fn marked_list(alloc: Global, mark: Mark, form: Value) -> Result<Value, AllocError>
+fn marked_list(alloc: Global, mark: MacroCharacter, form: Value) -> Result<Value, AllocError>
     ensures { IfOk result (λ v. view v
         ≡ list (item (symbol (mark_symbol mark)) (item (view form) no_items))) }
 {
@@ -208,13 +212,13 @@ fn marked_list(alloc: Global, mark: Mark, form: Value) -> Result<Value, AllocErr
 fn enclosed_reading<'a>(
     alloc: Global,
     bracket: Bracket,
-    row: Row<'a>,
+    row: RowReading<'a>,
 ) -> Result<FormReading<'a>, AllocError>
     ensures { IfOk result (λ r. form_reading_view r
         ≡ enclosed_reading (bracket_view bracket) (items_view row.entry.forms.items)
         (form_reading_view row.entry.after)) }
 {
-    let Row { forms, after } = row;
+    let RowReading { forms, after } = row;
     match after {
         FormReading::Closing(found, rest) => {
             if found.is(bracket) {

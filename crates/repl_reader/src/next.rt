@@ -5,7 +5,7 @@ ghost use Rattle.repl_reader.specs.Inside.View.{next_view};
 
 use crate::blank::skip_blank;
 use crate::fault::{FaultKind, break_with};
-use crate::reading::{Bracket, FormReading, Mark};
+use crate::reading::{Bracket, FormReading, MacroCharacter};
 use crate::strings::read_string;
 use crate::text::{first_character, tail};
 use crate::tokens::read_token;
@@ -16,7 +16,7 @@ pub(crate) enum Next<'a> {
     /// All that there is to say.
     Settled(FormReading<'a>),
     Opening(Bracket, &'a str),
-    Marking(Mark, &'a str),
+    Marking(MacroCharacter, &'a str),
     Dropping(&'a str),
 }
 
@@ -35,8 +35,8 @@ pub(crate) fn read_next(alloc: Global, text: &str) -> Result<Next<'_>, AllocErro
         b')' => Ok(Next::Settled(FormReading::Closing(Bracket::Round, tail(text)))),
         b']' => Ok(Next::Settled(FormReading::Closing(Bracket::Square, tail(text)))),
         b'}' => Ok(Next::Settled(FormReading::Closing(Bracket::Curly, tail(text)))),
-        b'\'' => Ok(Next::Marking(Mark::Quote, tail(text))),
-        b'@' => Ok(Next::Marking(Mark::Deref, tail(text))),
+        b'\'' => Ok(Next::Marking(MacroCharacter::Quote, tail(text))),
+        b'@' => Ok(Next::Marking(MacroCharacter::Deref, tail(text))),
         b'#' => read_dispatch(alloc, tail(text)),
         b'"' => Ok(Next::Settled(read_string(alloc, tail(text))?)),
         b'^' | b'~' | b'\\' | b'`' => {

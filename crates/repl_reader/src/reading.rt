@@ -12,7 +12,7 @@ pub(crate) enum Bracket {
 
 /// A character that wraps the form after it.
 #[derive(Clone, Copy)]
-pub(crate) enum Mark {
+pub(crate) enum MacroCharacter {
     Quote,
     Deref,
 }

@@ -2,8 +2,8 @@
 use Rattle.std.proofs.Common.{◌≡◌, ℕ, List, ◌++◌, Option, Some, None, Result, Ok, Err, IfOk, Vec, Global, refl, sym, ap, ◌∙◌, codes, append_assoc, append-nil}
 use Rattle.std.specs.Fmt.{digits}
 use Rattle.std.specs.declared.alloc.AllocError.{AllocError}
-use Rattle.bencode_wire.specs.Tree.{Tree, string, list, dictionary, Pairs, no_pairs, pair}
-use Rattle.bencode_wire.specs.Spelling.{canonical, string_text, pairs_text, put_pairs}
+use Rattle.bencode_wire.specs.Tree.{Tree, string, list, dictionary, TreePairs, no_pairs, pair}
+use Rattle.bencode_wire.specs.Spelling.{canonical, string_text, pairs_text, put_tree_pairs}
 use Rattle.bencode_wire.proofs.Views.{each_sorted}
 use Rattle.repl_replies.specs.Description.{ops, server_versions}
 use Rattle.repl_replies.specs.OperationNames.{operations}
@@ -16,15 +16,15 @@ use Rattle.repl_replies.specs.Replies.{with_field, status, status_value, strings
 use Rattle.repl_replies.specs.Replies.{body_fields, message, bytes_of}
 
 -- the status alone, where there is one
-abbrev with_status : BodyData → Pairs
+abbrev with_status : BodyData → TreePairs
 with_status body = with_field (codes "status") (status_value (status body)) no_pairs
 
 -- a reply that has no field but a status
-abbrev plain : OriginData → BodyData → Pairs
+abbrev plain : OriginData → BodyData → TreePairs
 plain o body = with_field (codes "id") o.id (with_field (codes "session") o.session (with_status body))
 
 -- the fields of a reply in the order of their keys
-abbrev in_order : OriginData → BodyData → Pairs
+abbrev in_order : OriginData → BodyData → TreePairs
 in_order o (value text ns) =
     with_field (codes "id") o.id (pair (codes "ns") (string ns)
     (with_field (codes "session") o.session (pair (codes "value") (string text) no_pairs)))
@@ -51,7 +51,7 @@ in_order o closed = plain o closed
 in_order o interrupted = plain o interrupted
 
 -- the fields in the order in which the message has them
-abbrev fields_of : OriginData → BodyData → Pairs
+abbrev fields_of : OriginData → BodyData → TreePairs
 fields_of o body =
     with_field (codes "id") o.id (with_field (codes "session") o.session (with_field (codes "status") (status_value (status body)) (body_fields body)))
 
@@ -59,7 +59,7 @@ fields_of o body =
 abbrev AreInOrder : BodyData → Option Tree → Option Tree → Type 0
 AreInOrder body id session =
     let o : OriginData = record { id = id; session = session } in
-    put_pairs no_pairs (fields_of o body) ≡ each_sorted (in_order o body)
+    put_tree_pairs no_pairs (fields_of o body) ≡ each_sorted (in_order o body)
 
 in_each : (body : BodyData) → AreInOrder body None None → ((t : Tree) → AreInOrder body (Some t) None) → ((u : Tree) → AreInOrder body None (Some u))
     → ((t u : Tree) → AreInOrder body (Some t) (Some u)) → (id session : Option Tree) → AreInOrder body id session
@@ -88,16 +88,16 @@ are_in_order closed = in_each closed refl (λ t. refl) (λ u. refl) (λ t u. ref
 are_in_order interrupted = in_each interrupted refl (λ t. refl) (λ u. refl) (λ t u. refl)
 
 -- pairs, written behind what there is
-abbrev written : List ℕ → Pairs → List ℕ
+abbrev written : List ℕ → TreePairs → List ℕ
 written out no_pairs = out
 written out (pair key t ps) = written (out ++ (string_text key ++ canonical t)) ps
 
-written_text : (out : List ℕ) (ps : Pairs) → written out ps ≡ out ++ pairs_text (each_sorted ps)
+written_text : (out : List ℕ) (ps : TreePairs) → written out ps ≡ out ++ pairs_text (each_sorted ps)
 written_text out no_pairs = sym (append-nil out)
 written_text out (pair key t ps) = written_text (out ++ (string_text key ++ canonical t)) ps ∙ append_assoc out (string_text key ++ canonical t) (pairs_text (each_sorted ps))
 
 -- a field that there may be, and those behind it
-given : (out key : List ℕ) (v : Option Tree) (more : Pairs) → written out (with_field key v more) ≡ written (out ++ behind (string_text key) v) more
+given : (out key : List ℕ) (v : Option Tree) (more : TreePairs) → written out (with_field key v more) ≡ written (out ++ behind (string_text key) v) more
 given out key None more = ap (λ x. written x more) (sym (append-nil out))
 given out key (Some t) more = refl
 

@@ -3,7 +3,7 @@ use Rattle.std.proofs.Common.{◌≡◌, ℕ, List, Option, Some, None, Ok, Err,
 use Rattle.std.specs.Option.{option_and_then, ForSome}
 use Rattle.std.specs.Result.{result_map_both}
 use Rattle.std.specs.declared.result.Result.{Result}
-use Rattle.bencode_wire.specs.Tree.{Tree, Pairs}
+use Rattle.bencode_wire.specs.Tree.{Tree, TreePairs}
 use Rattle.repl_replies.specs.Inside.Named.{session_of, IsNamed}
 use Rattle.repl_replies.specs.Fields.{as_string}
 use Rattle.repl_replies.specs.Operations as operations
@@ -57,7 +57,7 @@ load_operation-names : (session : Option ℕ) (o : Option (List ℕ)) (op : Oper
 load_operation-names session None op e = absurd (not-ok _ _ e)
 load_operation-names session (Some text) op e = sym (ap session_of (ok-same (operations.load_file session text) op e))
 
-operation-names : (fields : Pairs) (name : OperationName) (session : Option ℕ) (op : OperationData)
+operation-names : (fields : TreePairs) (name : OperationName) (session : Option ℕ) (op : OperationData)
     → operation_in fields name session ≡ Ok op → session_of op ≡ session
 operation-names fields names.Clone session op e = sym (ap session_of (ok-same (operations.clone session) op e))
 operation-names fields names.Close session op e = close_operation-names session op e
@@ -66,13 +66,13 @@ operation-names fields names.Eval session op e = eval_operation-names session _ 
 operation-names fields names.LoadFile session op e = load_operation-names session _ op e
 operation-names fields names.ListSessions session op e = sym (ap session_of (ok-same (operations.list_sessions session) op e))
 
-in-session-names : (number_of : Numbers) (fields : Pairs) (name : OperationName) (id : Option Tree) (r : Result (Option ℕ) BodyData) (op : OperationData) (n : ℕ)
+in-session-names : (number_of : Numbers) (fields : TreePairs) (name : OperationName) (id : Option Tree) (r : Result (Option ℕ) BodyData) (op : OperationData) (n : ℕ)
     → session_in number_of id ≡ r → in_session fields name r ≡ Ok op → session_of op ≡ Some n → IsNamed number_of n
 in-session-names number_of fields name id (Err refusal) op n is e names = absurd (not-ok _ _ e)
 in-session-names number_of fields name id (Ok session) op n is e names =
     session-names number_of id session n is (sym (operation-names fields name session op e) ∙ names)
 
-served_operation-names : (number_of : Numbers) (fields : Pairs) (op : Option Tree) (name : Option OperationName) (id : Option Tree) (it : OperationData) (n : ℕ)
+served_operation-names : (number_of : Numbers) (fields : TreePairs) (op : Option Tree) (name : Option OperationName) (id : Option Tree) (it : OperationData) (n : ℕ)
     → served_operation fields op name (session_in number_of id) ≡ Ok it → session_of it ≡ Some n → IsNamed number_of n
 served_operation-names number_of fields op None id it n e names = absurd (not-ok _ _ e)
 served_operation-names number_of fields op (Some name) id it n e names =
@@ -85,13 +85,13 @@ of-origin-names number_of origin (Err refusal) a n by e names = absurd (not-ok _
 of-origin-names number_of origin (Ok it) a n by e names =
     by it refl (ap (λ (x : AskedData). session_of x.operation) (ok-same _ a e) ∙ names)
 
-operation_or_reply-names : (number_of : Numbers) (fields : Pairs) (a : AskedData) (n : ℕ)
+operation_or_reply-names : (number_of : Numbers) (fields : TreePairs) (a : AskedData) (n : ℕ)
     → operation_or_reply number_of fields ≡ Ok a → session_of a.operation ≡ Some n → IsNamed number_of n
 unfolding operation_or_reply
 operation_or_reply-names number_of fields a n e names =
     of-origin-names number_of _ _ a n (λ it is so. served_operation-names number_of fields _ _ _ it n is so) e names
 
-pub operation_or_reply-view-names : (number_of : Numbers) (fields : Pairs) (r : Result Asked Reply)
+pub operation_or_reply-view-names : (number_of : Numbers) (fields : TreePairs) (r : Result Asked Reply)
     → result_map_both asked_view reply_view r ≡ operation_or_reply number_of fields
     → IfOk r (λ a. ForSome (session_of (operation_view a.operation)) (IsNamed number_of))
 operation_or_reply-view-names number_of fields (Err reply) is = tt

@@ -1,11 +1,11 @@
 -- What `describe` tells (the nREPL manual, "Supported nREPL operations").
 use Rattle.std.specs.Prelude.{List, [], ◌∷◌, pos, codes}
-use Rattle.bencode_wire.specs.Tree.{Tree, integer, dictionary, Pairs, no_pairs, pair}
+use Rattle.bencode_wire.specs.Tree.{Tree, integer, dictionary, TreePairs, no_pairs, pair}
 use Rattle.repl_replies.specs.OperationNames.{operation_name, operations}
 use Rattle.repl_replies.specs.declared.names.OperationName.{OperationName}
 
 -- each operation under its name, with nothing further said of it
-abbrev pub ops : List OperationName → Pairs
+abbrev pub ops : List OperationName → TreePairs
 ops [] = no_pairs
 ops (operation ∷ more) = pair (operation_name operation) (dictionary no_pairs) (ops more)
 
@@ -19,7 +19,7 @@ server_version =
 abbrev pub server_versions : Tree
 server_versions = dictionary (pair (codes "server") server_version no_pairs)
 
-abbrev pub description : Pairs
+abbrev pub description : TreePairs
 description =
     pair (codes "aux") (dictionary no_pairs)
     (pair (codes "ops") (dictionary (ops operations))

@@ -1,7 +1,7 @@
 -- What a message asks for, or the reply to it, where sessions may be open (the nREPL manual,
 -- "Supported nREPL operations"). Keys that no definition here names are ignored.
 use Rattle.std.specs.Prelude.{ℕ, List, Option, Some, None, Result, Ok, Err, option_and_then, codes}
-use Rattle.bencode_wire.specs.Tree.{Tree, Pairs, field}
+use Rattle.bencode_wire.specs.Tree.{Tree, TreePairs, field}
 use Rattle.repl_replies.specs.Fields.{as_string, text_of}
 use Rattle.repl_replies.specs.OperationNames.{operation_named}
 use Rattle.repl_replies.specs.Replies.{OriginData, BodyData, ReplyData, unknown_op, unknown_session}
@@ -50,7 +50,7 @@ load_operation session None = Err no_file
 load_operation session (Some text) = Ok (load_file session text)
 
 -- what each operation needs
-abbrev pub operation_in : Pairs → OperationName → Option ℕ → Result OperationData BodyData
+abbrev pub operation_in : TreePairs → OperationName → Option ℕ → Result OperationData BodyData
 operation_in fields OperationName.Clone session = Ok (clone session)
 operation_in fields OperationName.Close session = close_operation session
 operation_in fields OperationName.Describe session = Ok (describe session)
@@ -62,13 +62,13 @@ operation_in fields OperationName.ListSessions session = Ok (list_sessions sessi
 
 -- the session is looked at before what the operation needs
 abbrev pub in_session
-    : Pairs → OperationName → Result (Option ℕ) BodyData → Result OperationData BodyData
+    : TreePairs → OperationName → Result (Option ℕ) BodyData → Result OperationData BodyData
 in_session fields operation (Err refusal) = Err refusal
 in_session fields operation (Ok session) = operation_in fields operation session
 
 -- the operation is looked at before the session
 abbrev pub served_operation
-    : Pairs → Option Tree → Option OperationName → Result (Option ℕ) BodyData
+    : TreePairs → Option Tree → Option OperationName → Result (Option ℕ) BodyData
     → Result OperationData BodyData
 served_operation fields op None session = Err (unknown_op op)
 served_operation fields op (Some operation) session = in_session fields operation session
@@ -84,7 +84,7 @@ operation_of_op op = option_and_then operation_named (option_and_then as_string 
 
 -- what a message asks for, or the reply to it: the operation is looked at first, then the session,
 -- then what the operation needs
-unfoldable pub operation_or_reply : Numbers → Pairs → Result AskedData ReplyData
+unfoldable pub operation_or_reply : Numbers → TreePairs → Result AskedData ReplyData
 operation_or_reply number_of fields =
     let op = field (codes "op") fields in
     let session = field (codes "session") fields in

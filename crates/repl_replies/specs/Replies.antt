@@ -1,7 +1,8 @@
 -- The replies (the nREPL manual, "Supported nREPL operations" and "Transports"): what each says,
 -- and its bytes.
 use Rattle.std.specs.Prelude.{ℕ, List, [], ◌∷◌, ◌++◌, Option, Some, None, codes}
-use Rattle.bencode_wire.specs.Tree.{Tree, string, list, dictionary, Pairs, no_pairs, pair, Trees}
+use Rattle.bencode_wire.specs.Tree.{Tree, string, list, dictionary, TreePairs, no_pairs, pair}
+use Rattle.bencode_wire.specs.Tree.{Trees}
 use Rattle.bencode_wire.specs.Tree.{no_trees, tree}
 use Rattle.bencode_wire.specs.Spelling.{canonical}
 use Rattle.repl_replies.specs.Description.{description}
@@ -64,7 +65,7 @@ status closed = codes "done" ∷ codes "session-closed" ∷ []
 status interrupted = codes "done" ∷ codes "interrupted" ∷ []
 
 -- a field before others, if it has a value
-abbrev pub with_field : List ℕ → Option Tree → Pairs → Pairs
+abbrev pub with_field : List ℕ → Option Tree → TreePairs → TreePairs
 with_field key None more = more
 with_field key (Some t) more = pair key t more
 
@@ -81,7 +82,7 @@ abbrev pub class_text : List ℕ → Tree
 class_text class = string (codes "class " ++ class)
 
 -- the fields that say what the reply says
-abbrev pub body_fields : BodyData → Pairs
+abbrev pub body_fields : BodyData → TreePairs
 body_fields (value text ns) =
     pair (codes "value") (string text) (pair (codes "ns") (string ns) no_pairs)
 body_fields (output text) = pair (codes "out") (string text) no_pairs

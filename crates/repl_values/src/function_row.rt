@@ -1,6 +1,6 @@
 // A function's row in the table of its group. Nothing here takes memory.
 ghost use Rattle.std.specs.Prelude.{◌≡◌, List, Some};
-ghost use Rattle.repl_values.specs.FunctionRows.{Row};
+ghost use Rattle.repl_values.specs.FunctionRows.{FunctionRowData};
 ghost use Rattle.repl_values.specs.Inside.RowView.{function_row_view};
 ghost use Rattle.repl_values.specs.FunctionRows as meant;
 
@@ -53,7 +53,7 @@ impl FunctionRow {
 /// A function of a table.
 pub trait HasRow: Copy {
     // The row of each function, and all functions, as the group's definitions have them.
-    ghost row_of: { Self → Row };
+    ghost row_of: { Self → FunctionRowData };
 
     ghost functions: { List Self };
 

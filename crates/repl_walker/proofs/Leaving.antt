@@ -8,7 +8,7 @@ use Rattle.repl_asks.specs.Accesses.{AccessData}
 use Rattle.evaluation_rules.specs.Doing.{Kept, Doing, left, asking, printing, looking, noting}
 use Rattle.evaluation_rules.specs.Doing.{trying}
 use Rattle.evaluation_rules.specs.Places.{PlaceData}
-use Rattle.evaluation_rules.specs.Rows.{last_of}
+use Rattle.evaluation_rules.specs.Rows.{value_of_last}
 use Rattle.evaluation_rules.specs.Transactions.{body_of}
 use Rattle.evaluation_rules.specs.Evaluation.{value_at}
 use Rattle.repl_walker.specs.Standing.{Standing, attempt_of, standing_after}
@@ -57,7 +57,7 @@ left-again text ops d h = λ answers name goes_on answer more is again.
 pub retries-leave
     : (room : ℕ) (p : PlaceData) (forms : List Datum) (begun : Kept) (text : List ℕ)
     (ops : List AccessData)
-    → RetriesLeave (standing_after text ops (body_of (last_of (value_at room p) nil forms) begun))
+    → RetriesLeave (standing_after text ops (body_of (value_of_last (value_at room p) nil forms) begun))
 retries-leave room p forms begun text ops =
-    left-again text ops (body_of (last_of (value_at room p) nil forms) begun)
+    left-again text ops (body_of (value_of_last (value_at room p) nil forms) begun)
     (body-leaves room p forms begun)

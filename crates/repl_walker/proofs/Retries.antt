@@ -45,9 +45,9 @@ use Rattle.evaluation_rules.specs.declared.sending.Dispatch.{Dispatch}
 use Rattle.evaluation_rules.specs.declared.updating.Update.{Update}
 use Rattle.evaluation_rules.specs.declared.occasion.Occasion.{Occasion}
 use Rattle.evaluation_rules.specs.Doing.{Kept, Doing, gave, failed, left, retried, asking, printing}
-use Rattle.evaluation_rules.specs.Doing.{looking, noting, trying, Part, ◌>>=◌, pure_part, fails}
+use Rattle.evaluation_rules.specs.Doing.{looking, noting, trying, Part, ◌|>◌, pure_part, fails}
 use Rattle.evaluation_rules.specs.Places.{PlaceData, Evaluator, with_local, space_of}
-use Rattle.evaluation_rules.specs.Rows.{row, last_of}
+use Rattle.evaluation_rules.specs.Rows.{row, value_of_last}
 use Rattle.evaluation_rules.specs.Naming.{known_or_asked, known_resolution, resolution, as_value}
 use Rattle.evaluation_rules.specs.Naming.{as_function, function_value}
 use Rattle.evaluation_rules.specs.Refs.{read_value, known_or_read, ref_value, put_by, put_value}
@@ -129,7 +129,7 @@ faults : {A : Type 0} (f : Failure) → Passes A (fails f)
 faults f = record { leaves = λ next kept runs on. tt }
 
 then-passes : {A B : Type 0} {m : Part A} {f : A → Part B} → Passes A m
-    → ((a : A) → Passes B (f a)) → Passes B (m >>= f)
+    → ((a : A) → Passes B (f a)) → Passes B (m |> f)
 then-passes {f = f} first behind = record {
   leaves = λ next kept runs on.
       first.leaves (λ a. f a next) kept runs
@@ -148,7 +148,7 @@ row-passes walk w (d ∷ ds) =
     then-passes (w d) (λ v. then-passes (row-passes walk w ds) (λ vs. pures (v ∷ vs)))
 
 last-passes : (walk : Datum → Part Datum) → ((d : Datum) → Passes Datum (walk d))
-    → (last : Datum) (ds : List Datum) → Passes Datum (last_of walk last ds)
+    → (last : Datum) (ds : List Datum) → Passes Datum (value_of_last walk last ds)
 last-passes walk w last [] = pures last
 last-passes walk w last (d ∷ ds) = then-passes (w d) (λ v. last-passes walk w v ds)
 
@@ -605,11 +605,11 @@ shapes-pass : (walk : Evaluator) → WalkPasses walk → (p : PlaceData) (shape 
 shapes-pass walk w p (shapes.quoted d) = pures d
 shapes-pass walk w p (shapes.body forms) = last-passes (walk p) (w p) nil forms
 shapes-pass walk w p (shapes.transaction forms) =
-    outside-passes (transaction_value (last_of (walk p) nil forms))
-    (transacts (last_of (walk p) nil forms) (last-passes (walk p) (w p) nil forms))
+    outside-passes (transaction_value (value_of_last (walk p) nil forms))
+    (transacts (value_of_last (walk p) nil forms) (last-passes (walk p) (w p) nil forms))
 shapes-pass walk w p (shapes.effects forms) =
-    outside-passes (effects_value (last_of (walk p) nil forms))
-    (effects-pass (last_of (walk p) nil forms) (last-passes (walk p) (w p) nil forms))
+    outside-passes (effects_value (value_of_last (walk p) nil forms))
+    (effects-pass (value_of_last (walk p) nil forms) (last-passes (walk p) (w p) nil forms))
 shapes-pass walk w p (shapes.choice c consequent alternative) =
     then-passes (w p c) (λ v. last-passes (walk p) (w p) nil
     (if is_truthy v then consequent else alternative))
@@ -621,7 +621,7 @@ shapes-pass walk w p (shapes.function_definition s params forms) = function-defi
 shapes-pass walk w p (shapes.thrown d) = then-passes (w p d) throws
 shapes-pass walk w p (shapes.entry s) = outside-passes (entry_value s) (enters s)
 shapes-pass walk w p (shapes.computed_entry d) =
-    outside-passes (walk p d >>= computed_entry_value) (then-passes (w p d) computed-enters)
+    outside-passes (walk p d |> computed_entry_value) (then-passes (w p d) computed-enters)
 
 specials : (walk : Evaluator) → WalkPasses walk
     → (p : PlaceData) (special : SpecialForm) (shape : Option ShapeData)
@@ -659,7 +659,7 @@ forms-pass room p d = pures d
 
 -- the body of any attempt
 pub body-leaves : (room : ℕ) (p : PlaceData) (forms : List Datum) (kept : Kept)
-    → Leaves (body_of (last_of (value_at room p) nil forms) kept)
+    → Leaves (body_of (value_of_last (value_at room p) nil forms) kept)
 body-leaves room p forms kept =
     (last-passes (value_at room p) (forms-pass room p) nil forms).leaves
     (λ d after. left (gave d) after) (with_running true kept) refl (λ d after ran. tt)

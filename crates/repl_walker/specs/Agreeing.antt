@@ -7,7 +7,7 @@ use Rattle.repl_asks.specs.Exchange.{reading, retry, Exchanged}
 use Rattle.evaluation_rules.specs.Arguments.{is_shared}
 use Rattle.evaluation_rules.specs.Doing.{Kept, Doing}
 use Rattle.evaluation_rules.specs.Places.{PlaceData}
-use Rattle.evaluation_rules.specs.Rows.{last_of}
+use Rattle.evaluation_rules.specs.Rows.{value_of_last}
 use Rattle.evaluation_rules.specs.Transactions.{body_of}
 use Rattle.evaluation_rules.specs.Evaluation.{value_at}
 use Rattle.repl_walker.specs.Attempts.{AsksThese, answers_in}
@@ -45,7 +45,7 @@ OneBegins {A} xs ys = ((rest : List A) × (xs ≡ ys ++ rest)) ⊎ ((rest : List
 -- the body of a `dosync` with these forms, in a place, with so much room, and with what was kept
 -- where it began
 abbrev pub dosync_body : ℕ → PlaceData → List Datum → Kept → Doing
-dosync_body room p forms begun = body_of (last_of (value_at room p) nil forms) begun
+dosync_body room p forms begun = body_of (value_of_last (value_at room p) nil forms) begun
 
 -- Two attempts at one `dosync` with the same setting, whatever was printed before each. Where shared
 -- refs told both the same, and their own answers are equal one by one as far as both have one, the

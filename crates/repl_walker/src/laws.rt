@@ -7,7 +7,7 @@ ghost use Rattle.repl_asks.specs.Leading.{Leads, tree_after, AreItsAsks};
 ghost use Rattle.evaluation_rules.specs.Doing.{Kept, Exit, Doing, left};
 ghost use Rattle.evaluation_rules.specs.Tree.{written_tree};
 ghost use Rattle.evaluation_rules.specs.Places.{PlaceData};
-ghost use Rattle.evaluation_rules.specs.Rows.{last_of};
+ghost use Rattle.evaluation_rules.specs.Rows.{value_of_last};
 ghost use Rattle.evaluation_rules.specs.Transactions.{body_of, after_body, attempts};
 ghost use Rattle.evaluation_rules.specs.Evaluation.{value_at};
 ghost use Rattle.repl_asks.specs.Accesses.{AccessData};
@@ -71,5 +71,5 @@ pub fn a_retry_leaves_the_body()
     ensures { (room : ℕ) (p : PlaceData) (forms : List Datum) (begun : Kept) (text : List ℕ)
         (ops : List AccessData)
         → RetriesLeave (standing_after text ops
-        (body_of (last_of (value_at room p) nil forms) begun)) }
+        (body_of (value_of_last (value_at room p) nil forms) begun)) }
 {}

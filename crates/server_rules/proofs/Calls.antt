@@ -23,11 +23,11 @@ use Rattle.ref_table.specs.Commit.{is_newer_ref, any_newer, folded_from, all_fol
 use Rattle.ref_table.specs.Commit.{with_changes, with_raised_counter, with_all, concluded_commit}
 use Rattle.ref_table.specs.Commit.{checked_commit, commit_by}
 use Rattle.ref_table.proofs.Folds.{in_front, folded-names}
-use Rattle.ref_table.specs.Calls.{Call, nothing, makes, begins, leaves_attempt, reads, counts}
+use Rattle.ref_table.specs.Calls.{StoreCall, nothing, makes, begins, leaves_attempt, reads, counts}
 use Rattle.ref_table.specs.Calls.{tells_least, tells_most, sets_least, sets_most, commits}
 use Rattle.ref_table.specs.Calls.{inside, outside, told_inside, told_outside}
 use Rattle.ref_table.specs.Calls.{gives_up, performed_begin, read_at, read_by, number_told}
-use Rattle.ref_table.specs.Calls.{count_told, bound_set, given_up, performed}
+use Rattle.ref_table.specs.Calls.{count_told, performed_bound_set, given_up, performed}
 use Rattle.server_rules.specs.Isolation.View.{map_ref, content_of, count_at, counts_at, Seen, seen_of}
 use Rattle.server_rules.specs.Isolation.Privacy.{IsOwned, AreOwned}
 use Rattle.server_rules.proofs.Numbered.{none-some, some-same, slice_get-map, changed_at-map}
@@ -228,7 +228,7 @@ bound-seen_of
     (s : Store) (r : Option Ref) → owner ≡ name.owner → IsOwned owner
     → IsSeenAs s.around.counter f g → AllBelow s.around.counter s.mine.points
     → bound_seen s.tenant name owner g (seen_of s.mine) (option_map (map_ref content_of) r)
-    ≡ seen_performed (bound_set name owner f s r)
+    ≡ seen_performed (performed_bound_set name owner f s r)
 bound-seen_of name owner f g s None is private seen_as below = refl
 bound-seen_of name shared f g s (Some r) is private seen_as below = absurd private
 bound-seen_of name (tenant u) f g s (Some r) is private seen_as below =
@@ -413,7 +413,7 @@ told_outside-map f None = refl
 told_outside-map f (Some a) = refl
 
 pub performed-seen_of
-    : (s : Store) (call : Call) → Sound s.around.counter s.mine → IsPrivateCall call
+    : (s : Store) (call : StoreCall) → Sound s.around.counter s.mine → IsPrivateCall call
     → performed_seen s.tenant (seen_of s.mine) call ≡ seen_performed (performed s call)
 performed-seen_of s nothing sound private = refl
 performed-seen_of s (makes d least most) sound private =

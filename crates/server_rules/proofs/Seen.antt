@@ -17,7 +17,7 @@ use Rattle.ref_history.specs.Versioned.{RefOf, new_ref, with_version, with_faile
 use Rattle.ref_history.specs.Versioned.{with_most}
 use Rattle.ref_table.specs.Performed.{Performed, as_was, tells}
 use Rattle.ref_table.specs.Commit.{guarded_refs, touched_refs, intent_fits, all_folded}
-use Rattle.ref_table.specs.Calls.{Call, nothing, makes, begins, leaves_attempt, reads, counts}
+use Rattle.ref_table.specs.Calls.{StoreCall, nothing, makes, begins, leaves_attempt, reads, counts}
 use Rattle.ref_table.specs.Calls.{tells_least, tells_most, sets_least, sets_most, commits}
 use Rattle.ref_table.specs.Calls.{inside, outside, told_inside, told_outside}
 use Rattle.ref_table.specs.Calls.{gives_up, number_told}
@@ -138,7 +138,7 @@ abbrev pub given_up_seen : ℕ → Seen → Option AnswerData → Performed Seen
 given_up_seen seat s None = as_was s None
 given_up_seen seat s (Some answer) = tells done (left_seen seat s)
 
-abbrev pub performed_seen : ℕ → Seen → Call → Performed Seen
+abbrev pub performed_seen : ℕ → Seen → StoreCall → Performed Seen
 performed_seen t s nothing = tells done s
 performed_seen t s (makes d least most) = made_seen t s d least most
 performed_seen t s (begins seat) = begun_seen seat s (numbered.part_under seat s.attempts)
@@ -164,7 +164,7 @@ performed_seen t s (outside seat) =
 performed_seen t s (gives_up seat call) = given_up_seen seat s (performed_seen t s call).told
 
 -- the call names no shared ref
-abbrev pub IsPrivateCall : Call → Type 0
+abbrev pub IsPrivateCall : StoreCall → Type 0
 IsPrivateCall (reads seat name) = IsOwned name.owner
 IsPrivateCall (counts seat name) = IsOwned name.owner
 IsPrivateCall (tells_least name) = IsOwned name.owner

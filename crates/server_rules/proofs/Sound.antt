@@ -13,10 +13,10 @@ use Rattle.ref_table.specs.Store.{changed_of, left_attempt}
 use Rattle.ref_table.specs.Commit.{guarded_refs, touched_refs, all_there, intent_fits, any_newer}
 use Rattle.ref_table.specs.Commit.{all_folded, with_changes, with_raised_counter, with_all}
 use Rattle.ref_table.specs.Commit.{concluded_commit, checked_commit, commit_by}
-use Rattle.ref_table.specs.Calls.{Call, nothing, makes, begins, leaves_attempt, reads, counts}
+use Rattle.ref_table.specs.Calls.{StoreCall, nothing, makes, begins, leaves_attempt, reads, counts}
 use Rattle.ref_table.specs.Calls.{tells_least, tells_most, sets_least, sets_most, commits}
 use Rattle.ref_table.specs.Calls.{inside, outside}
-use Rattle.ref_table.specs.Calls.{gives_up, performed_begin, read_at, read_by, bound_set}
+use Rattle.ref_table.specs.Calls.{gives_up, performed_begin, read_at, read_by, performed_bound_set}
 use Rattle.ref_table.specs.Calls.{given_up, performed}
 use Rattle.repl_asks.specs.Exchange.{AnswerData}
 use Rattle.server_rules.proofs.Counting.{Fall, Fall-higher}
@@ -166,7 +166,7 @@ read_by-rises counter seat name s (Some p) (Some r) h =
 bound-rises
     : (counter : ℕ) (name : RefNameData) (owner : OwnerData) (f : Ref → Ref) (s : Store)
     (r : Option Ref) → KeepsFalling s.around.counter f → Rises counter s
-    → Rises counter (bound_set name owner f s r).store
+    → Rises counter (performed_bound_set name owner f s r).store
 bound-rises counter name owner f s None keeps h = h
 bound-rises counter name shared f s (Some r) keeps h = h
 bound-rises counter name (tenant t) f s (Some r) keeps h = with_changed_ref-rises counter name f s keeps h
@@ -202,7 +202,7 @@ given_up-rises : (counter seat : ℕ) (s : Store) (told : Option AnswerData) →
 given_up-rises counter seat s None h = h
 given_up-rises counter seat s (Some answer) h = left-rises counter seat s h
 
-pub performed-rises : (counter : ℕ) (s : Store) (call : Call) → Rises counter s
+pub performed-rises : (counter : ℕ) (s : Store) (call : StoreCall) → Rises counter s
     → Rises counter (performed s call).store
 performed-rises counter s nothing h = h
 performed-rises counter s (makes d least most) h = record {

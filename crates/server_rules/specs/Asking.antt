@@ -11,7 +11,7 @@ use Rattle.name_spaces.specs.Namespaces.{Namespaces, with_entered_namespace, wit
 use Rattle.name_spaces.specs.Resolving as names
 use Rattle.name_spaces.specs.Resolving.{FoundData, found_resolution, found_latest}
 use Rattle.name_spaces.specs.declared.latest.Latest.{Latest}
-use Rattle.ref_table.specs.Calls.{Call, nothing, makes, begins, reads, counts, tells_least}
+use Rattle.ref_table.specs.Calls.{StoreCall, nothing, makes, begins, reads, counts, tells_least}
 use Rattle.ref_table.specs.Calls.{tells_most, sets_least, sets_most, commits, inside, outside}
 use Rattle.ref_table.specs.Calls.{gives_up}
 use Rattle.server_rules.specs.Cells.{CellsData, has_named, cell_answer, SenderData, cells_after}
@@ -26,11 +26,11 @@ use Rattle.server_rules.specs.declared.actor.Actor.{Actor}
 use Rattle.server_rules.specs.declared.refusal.Refusal.{Refusal}
 
 -- an action asks also outside of attempts whether it may send
-abbrev pub may_send_call : ℕ → Call
+abbrev pub may_send_call : ℕ → StoreCall
 may_send_call seat = if seat == seat_of Actor.Agents then nothing else inside seat
 
 -- what is asked of the refs
-abbrev pub call_of : ℕ → AskData → Call
+abbrev pub call_of : ℕ → AskData → StoreCall
 call_of seat (exchange.new_ref d least most) = makes d least most
 call_of seat exchange.begin = begins seat
 call_of seat (exchange.read name) = reads seat name
@@ -142,7 +142,7 @@ abbrev pub when_told : Option AnswerData → (AnswerData → Outcome) → Outcom
 when_told None next = refuses Refusal.Idle
 when_told (Some told) next = next told
 
-abbrev pub calling : Call → (AnswerData → Outcome) → Plan
+abbrev pub calling : StoreCall → (AnswerData → Outcome) → Plan
 calling call next = record { call = call; next = λ told. when_told told next }
 
 abbrev pub asked_allowed : Ground → Actor → ActorData → WorkInHand → Run → AskData → TenantState → Plan

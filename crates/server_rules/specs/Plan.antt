@@ -2,7 +2,7 @@
 use Rattle.std.specs.Prelude.{ℕ, ◌-◌, List, [], Option}
 use Rattle.repl_asks.specs.Exchange.{AskData, AnswerData}
 use Rattle.repl_asks.specs.Job.{JobData, EndingData}
-use Rattle.ref_table.specs.Calls.{Call, nothing}
+use Rattle.ref_table.specs.Calls.{StoreCall, nothing}
 use Rattle.server_rules.specs.Tenant.{TenantState}
 use Rattle.server_rules.specs.declared.actor.Actor.{Actor}
 use Rattle.server_rules.specs.declared.refusal.Refusal.{Refusal}
@@ -42,7 +42,7 @@ pub data Outcome : Type 0 where
   leaves : TenantState → StepAnswer → Outcome
 
 pub record Plan : Type 0 where
-  pub call : Call
+  pub call : StoreCall
   pub next : Option AnswerData → Outcome
 
 -- a deed that needs no refs

@@ -5,7 +5,7 @@ ghost use Rattle.server_rules.specs.Ground.{Ground};
 ghost use Rattle.server_rules.specs.Grounds.{IsRight};
 ghost use Rattle.server_rules.specs.LoneTurns.{LoneTenant, hears, goes, drains, accepted, lone_step};
 ghost use Rattle.server_rules.specs.Inside.Wires.{wire_at};
-ghost use Rattle.server_rules.specs.Inside.Turned.{Left, Accepted, IsRefusedTurn};
+ghost use Rattle.server_rules.specs.Inside.Turned.{LeftToDo, AcceptedWith, IsRefusedTurn};
 ghost use Rattle.server_rules.specs.Inside.Rounds.{IsEnough};
 
 use crate::actor::Actor;
@@ -32,7 +32,7 @@ pub enum Wire {
 /// step refuses so, and leaves the tenant as it was.
 pub trait Core {
     /// How much is left to do: the steps, and the replies that wait.
-    ghost left: { Self → Left };
+    ghost left: { Self → LeftToDo };
     /// The code stands for this tenant.
     ghost stands: { Ground → Self → LoneTenant → Type 0 };
 
@@ -41,7 +41,7 @@ pub trait Core {
         ensures heard { OnOk result ((left self.old).steps ≡ (left self.new).steps + 1) }
         ensures refused { OnErr result ((left self.new).steps ≡ (left self.old).steps) }
         ensures accepted { (g : Ground) (l : LoneTenant) → IsRight g → stands g self.old l
-            → OnOk result (Accepted (stands g self.new) (lone_step g l (hears piece.now))) }
+            → OnOk result (AcceptedWith (stands g self.new) (lone_step g l (hears piece.now))) }
         ensures as_it_was { (g : Ground) (l : LoneTenant) → IsRight g → stands g self.old l
             → IfErr result (λ why. why ≢ Refusal.NoMemory
             → IsRefusedTurn why (lone_step g l (hears piece.now)) × stands g self.new l) };
@@ -58,7 +58,7 @@ pub trait Core {
         ensures refused { OnErr result ((left self.new).steps ≡ (left self.old).steps) }
         ensures held { result ≡ Err Refusal.Held → 0 < length (left self.old).outbox }
         ensures accepted { (g : Ground) (l : LoneTenant) → IsRight g → stands g self.old l
-            → OnOk result (Accepted (stands g self.new) (lone_step g l (goes actor))) }
+            → OnOk result (AcceptedWith (stands g self.new) (lone_step g l (goes actor))) }
         ensures as_it_was { (g : Ground) (l : LoneTenant) → IsRight g → stands g self.old l
             → IfErr result (λ why. why ≢ Refusal.NoMemory
             → IsRefusedTurn why (lone_step g l (goes actor)) × stands g self.new l) };

@@ -11,7 +11,7 @@ use Rattle.server_rules.specs.Shared.{value_in_ref}
 use Rattle.ref_table.specs.Store.{Store, ref_named, ref_of, newest_in_ref}
 use Rattle.ref_history.specs.Versioned.{Ref, new_ref}
 use Rattle.ref_history.specs.RingHistories.{RingStands}
-use Rattle.ref_table.specs.Refs.{Refs, store_of, refs_after, with_ref}
+use Rattle.ref_table.specs.Refs.{TableRefs, store_of, refs_after, with_ref}
 use Rattle.ref_table.specs.Standing.{TableStands}
 use Rattle.tenant_parts.specs.Serving.{RingRefTable}
 use Rattle.tenant_parts.specs.Sound.{IsSoundRef}
@@ -58,7 +58,7 @@ read-stays s name None = refl
 read-stays s name (Some r) = refl
 
 -- a read outside of attempts leaves all as it was
-pub read-leaves : (r : Refs) (name : RefNameData)
+pub read-leaves : (r : TableRefs) (name : RefNameData)
     → refs_after (performed (store_of 0 [] r) (reads 0 name)).store r ≡ r
 read-leaves r name =
     let s : Store = store_of 0 [] r in

@@ -6,14 +6,14 @@ use Rattle.name_spaces.specs.Bindings.{Bindings}
 use Rattle.server_rules.specs.Shared.{SharedData}
 use Rattle.ref_history.specs.Versioned.{Ref}
 use Rattle.ref_history.specs.RingHistories.{RingStands}
-use Rattle.ref_table.specs.Refs.{Refs}
+use Rattle.ref_table.specs.Refs.{TableRefs}
 use Rattle.ref_table.specs.Standing.{TableStands}
 use Rattle.tenant_parts.specs.Serving.{RingRefTable}
 use Rattle.tenant_parts.specs.Sound.{IsSoundRef}
 
 -- these refs are the shared ones, nothing was committed yet, and no tenant has refs
 pub record HoldsRefs (table : RingRefTable) (refs : List Ref) : Type 0 where
-  pub all : Refs
+  pub all : TableRefs
   pub stands : TableStands RingStands table all
   pub counter : all.counter ≡ 0
   pub common : all.owned shared ≡ refs

@@ -6,13 +6,13 @@ use Rattle.name_spaces.specs.Bindings.{Bindings}
 use Rattle.server_rules.specs.Shared.{SharedData, told_in_text, shared_after}
 use Rattle.tenant_parts.specs.Serving.{RingRefTable}
 use Rattle.shared_space.specs.Holding.{HoldsShared}
-use Rattle.shared_space.specs.declared.telling.Told.{Told}
+use Rattle.shared_space.specs.declared.telling.ToldAnswer.{ToldAnswer}
 
-abbrev pub told_view : Told → AnswerData
+abbrev pub told_view : ToldAnswer → AnswerData
 told_view told = answer_view told.noted
 
 -- both are the same
-abbrev pub IsTwice : Told → Type 0
+abbrev pub IsTwice : ToldAnswer → Type 0
 IsTwice told = answer_view told.given ≡ answer_view told.noted
 
 -- where nothing is told, nothing changes

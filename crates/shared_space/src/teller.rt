@@ -7,7 +7,7 @@ ghost use Rattle.shared_space.specs.Holding.{HoldsShared};
 ghost use Rattle.shared_space.specs.Told.{AreTold, exchanges, shared_so_far};
 
 use crate::space::SharedSpace;
-use crate::telling::{Told, is_told, tell};
+use crate::telling::{ToldAnswer, is_told, tell};
 use name_spaces::SharedDefinitions;
 use ref_history::RingHistory;
 use ref_table::RefTable;
@@ -102,7 +102,7 @@ impl Refs for Teller {
             return Err(Stop { why, ask });
         }
         match tell(alloc, &mut self.names, &mut self.refs, &ask) {
-            Ok(Some(Told { given, noted })) => {
+            Ok(Some(ToldAnswer { given, noted })) => {
                 self.trace.push_reserved(Exchange { ask, answer: noted });
                 Ok(given)
             }

@@ -26,38 +26,38 @@ const BOUNDS: Bounds = Bounds { least: 0, most: 10 };
 /// An answer, to be given and to be noted. What can fail of its making is over before anything
 /// changes.
 #[derive(Drop)]
-pub(crate) struct Told {
+pub(crate) struct ToldAnswer {
     pub(crate) given: Answer,
     pub(crate) noted: Answer,
 }
 
-impl Told {
-    fn of(answer: Answer) -> Result<Told, AllocError>
+impl ToldAnswer {
+    fn of(answer: Answer) -> Result<ToldAnswer, AllocError>
         ensures view { IfOk result (λ told. told_view told ≡ answer_view answer) }
         ensures twice { IfOk result IsTwice }
     {
-        Ok(Told {
+        Ok(ToldAnswer {
             noted: answer.copy()?,
             given: answer,
         })
     }
 
-    fn done() -> Told
+    fn done() -> ToldAnswer
         ensures view { told_view result ≡ done }
         ensures twice { IsTwice result }
     {
-        Told {
+        ToldAnswer {
             noted: Answer::Done,
             given: Answer::Done,
         }
     }
 
-    fn of_ref(name: RefName) -> Told
+    fn of_ref(name: RefName) -> ToldAnswer
         ensures view { told_view result
             ≡ value_told (ref_datum (name_view name).owner (name_view name).number) }
         ensures twice { IsTwice result }
     {
-        Told {
+        ToldAnswer {
             noted: Answer::Value(Value::Ref(name)),
             given: Answer::Value(Value::Ref(name)),
         }
@@ -71,7 +71,7 @@ pub(crate) fn tell(
     names: &mut SharedDefinitions,
     refs: &mut RefTable<RingHistory>,
     ask: &Ask,
-) -> Result<Option<Told>, AllocError>
+) -> Result<Option<ToldAnswer>, AllocError>
     ensures told { (s : SharedData) → HoldsShared (defined_bindings names.old) refs.old s
         → IfOk result (λ told. ToldBehind s (ask_view ask.now) (defined_bindings names.new) refs.new
         (option_map told_view told)) }
@@ -82,15 +82,15 @@ pub(crate) fn tell(
     match ask {
         Ask::Resolve { namespace, symbol } => {
             let found = names.resolve(alloc, namespace.as_str(), symbol.as_str())?;
-            Ok(Some(Told::of(Answer::Resolution(resolution_of(found)))?))
+            Ok(Some(ToldAnswer::of(Answer::Resolution(resolution_of(found)))?))
         }
         Ask::Define { name, binding, .. } => {
             names.define(alloc, copy_text(name)?, binding.copy()?)?;
-            Ok(Some(Told::done()))
+            Ok(Some(ToldAnswer::done()))
         }
-        Ask::NewRef { value, .. } => Ok(Some(Told::of_ref(make(alloc, refs, value)?))),
+        Ask::NewRef { value, .. } => Ok(Some(ToldAnswer::of_ref(make(alloc, refs, value)?))),
         Ask::Read(name) => match read(refs, *name)? {
-            Some(answer) => Ok(Some(Told::of(answer)?)),
+            Some(answer) => Ok(Some(ToldAnswer::of(answer)?)),
             None => Ok(None),
         },
         _ => Ok(None),

@@ -29,20 +29,20 @@ enum Access {
 
 /// What comes of an access.
 #[derive(Clone, Copy, Debug, PartialEq, Eq)]
-enum Came {
+enum AccessOutcome {
     Noted,
     SetAfterCommute,
     Number(i64),
     Nothing,
 }
 
-type Step = (Access, Came);
+type AccessStep = (Access, AccessOutcome);
 
 fn take(
     rt: &impl Abort,
     alloc: Global,
     attempt: &mut Attempt,
-    steps: &[Step],
+    steps: &[AccessStep],
 ) -> Result<(), AllocError> {
     for (place, (access, wanted)) in steps.iter().enumerate() {
         let came = came_of(alloc, attempt, *access)?;
@@ -51,7 +51,11 @@ fn take(
     Ok(())
 }
 
-fn came_of(alloc: Global, attempt: &mut Attempt, access: Access) -> Result<Came, AllocError> {
+fn came_of(
+    alloc: Global,
+    attempt: &mut Attempt,
+    access: Access,
+) -> Result<AccessOutcome, AllocError> {
     match access {
         Access::Read(name, number) => attempt.note_read(name, Value::Int(number))?,
         Access::Set(name, number) => return set(attempt, name, number),
@@ -59,13 +63,13 @@ fn came_of(alloc: Global, attempt: &mut Attempt, access: Access) -> Result<Came,
         Access::Commute(name, number) => commute(alloc, attempt, name, number)?,
         Access::See(name) => return Ok(see(attempt, name)),
     }
-    Ok(Came::Noted)
+    Ok(AccessOutcome::Noted)
 }
 
-fn set(attempt: &mut Attempt, name: RefName, number: i64) -> Result<Came, AllocError> {
+fn set(attempt: &mut Attempt, name: RefName, number: i64) -> Result<AccessOutcome, AllocError> {
     match attempt.set(name, Value::Int(number)) {
-        Ok(()) => Ok(Came::Noted),
-        Err(SetError::Commuted) => Ok(Came::SetAfterCommute),
+        Ok(()) => Ok(AccessOutcome::Noted),
+        Err(SetError::Commuted) => Ok(AccessOutcome::SetAfterCommute),
         Err(SetError::NoMemory) => Err(AllocError),
     }
 }
@@ -85,10 +89,10 @@ fn commute(
     attempt.commute(name, commute, Value::Int(number))
 }
 
-fn see(attempt: &Attempt, name: RefName) -> Came {
+fn see(attempt: &Attempt, name: RefName) -> AccessOutcome {
     match attempt.value_of(name) {
-        Some(Value::Int(number)) => Came::Number(*number),
-        _ => Came::Nothing,
+        Some(Value::Int(number)) => AccessOutcome::Number(*number),
+        _ => AccessOutcome::Nothing,
     }
 }
 
@@ -97,8 +101,8 @@ fn take_at_last(
     rt: &impl Abort,
     alloc: Global,
     attempt: &mut Attempt,
-    step: Step,
-    as_it_was: &[Step],
+    step: AccessStep,
+    as_it_was: &[AccessStep],
 ) -> Result<(), AllocError> {
     if take(rt, alloc, attempt, &[step]).is_err() {
         take(rt, alloc, attempt, as_it_was)?;
@@ -131,7 +135,7 @@ fn expect_wanted(
     rt: &impl Abort,
     alloc: Global,
     attempt: Attempt,
-    as_it_was: &[Step],
+    as_it_was: &[AccessStep],
     wanted: (usize, usize, usize, usize),
 ) -> Result<(), Fail> {
     let intent = match attempt.into_intent() {
@@ -146,16 +150,16 @@ fn expect_wanted(
     Ok(())
 }
 
-const NOT_READ: &[Step] = &[(Access::See(FIRST), Came::Nothing)];
+const NOT_READ: &[AccessStep] = &[(Access::See(FIRST), AccessOutcome::Nothing)];
 
-const READ: &[Step] = &[
-    (Access::See(FIRST), Came::Number(1)),
-    (Access::See(SECOND), Came::Nothing),
+const READ: &[AccessStep] = &[
+    (Access::See(FIRST), AccessOutcome::Number(1)),
+    (Access::See(SECOND), AccessOutcome::Nothing),
 ];
 
-const READ_AND_SET: &[Step] = &[
-    (Access::See(FIRST), Came::Number(1)),
-    (Access::See(SECOND), Came::Number(2)),
+const READ_AND_SET: &[AccessStep] = &[
+    (Access::See(FIRST), AccessOutcome::Number(1)),
+    (Access::See(SECOND), AccessOutcome::Number(2)),
 ];
 
 #[test]
@@ -163,21 +167,27 @@ fn what_cannot_be_noted_leaves_all_as_it_was(rt: HostRuntime) -> Result<(), Fail
     let alloc = rt.alloc();
     let mut attempt = Attempt::new(alloc);
     let (read, set) = (Access::Read(FIRST, 1), Access::Set(SECOND, 2));
-    take_at_last(&rt, alloc, &mut attempt, (read, Came::Noted), NOT_READ)?;
-    take_at_last(&rt, alloc, &mut attempt, (set, Came::Noted), READ)?;
+    take_at_last(
+        &rt,
+        alloc,
+        &mut attempt,
+        (read, AccessOutcome::Noted),
+        NOT_READ,
+    )?;
+    take_at_last(&rt, alloc, &mut attempt, (set, AccessOutcome::Noted), READ)?;
     take(&rt, alloc, &mut attempt, READ_AND_SET)?;
     expect_wanted(&rt, alloc, attempt, READ_AND_SET, (1, 0, 0, 0))
 }
 
-const COMMUTED: &[Step] = &[
-    (Access::Set(FIRST, 5), Came::SetAfterCommute),
-    (Access::See(FIRST), Came::Number(1)),
+const COMMUTED: &[AccessStep] = &[
+    (Access::Set(FIRST, 5), AccessOutcome::SetAfterCommute),
+    (Access::See(FIRST), AccessOutcome::Number(1)),
 ];
 
-const NOT_COMMUTED: &[Step] = &[
-    (Access::See(FIRST), Came::Nothing),
-    (Access::Set(FIRST, 5), Came::Noted),
-    (Access::See(FIRST), Came::Number(5)),
+const NOT_COMMUTED: &[AccessStep] = &[
+    (Access::See(FIRST), AccessOutcome::Nothing),
+    (Access::Set(FIRST, 5), AccessOutcome::Noted),
+    (Access::See(FIRST), AccessOutcome::Number(5)),
 ];
 
 #[test]
@@ -192,16 +202,16 @@ fn commute_that_cannot_be_noted_lets_the_ref_be_set(rt: HostRuntime) -> Result<(
     Ok(())
 }
 
-const COMMUTED_TWICE: &[Step] = &[
-    (Access::Commute(FIRST, 1), Came::Noted),
-    (Access::Commute(FIRST, 2), Came::Noted),
+const COMMUTED_TWICE: &[AccessStep] = &[
+    (Access::Commute(FIRST, 1), AccessOutcome::Noted),
+    (Access::Commute(FIRST, 2), AccessOutcome::Noted),
 ];
 
-const NOT_ENSURED: &[Step] = &[(Access::See(OURS), Came::Nothing)];
+const NOT_ENSURED: &[AccessStep] = &[(Access::See(OURS), AccessOutcome::Nothing)];
 
-const ENSURED: &[Step] = &[
-    (Access::See(FIRST), Came::Number(2)),
-    (Access::See(OURS), Came::Number(7)),
+const ENSURED: &[AccessStep] = &[
+    (Access::See(FIRST), AccessOutcome::Number(2)),
+    (Access::See(OURS), AccessOutcome::Number(7)),
 ];
 
 #[test]
@@ -211,7 +221,7 @@ fn intent_that_cannot_be_made_loses_no_commute(rt: HostRuntime) -> Result<(), Fa
     if take(&rt, alloc, &mut attempt, COMMUTED_TWICE).is_err() {
         return Ok(());
     }
-    let ensured = (Access::Ensure(OURS, 7), Came::Noted);
+    let ensured = (Access::Ensure(OURS, 7), AccessOutcome::Noted);
     take_at_last(&rt, alloc, &mut attempt, ensured, NOT_ENSURED)?;
     expect_wanted(&rt, alloc, attempt, ENSURED, (0, 1, 1, 2))
 }

@@ -2,7 +2,7 @@
 // generator, so each run makes the same.
 ghost use Rattle.std.specs.Prelude.{◌<◌};
 
-use crate::histories::{Call, Told, make, told_of};
+use crate::histories::{HistoryCall, HistoryTold, make, told_of};
 use ref_history::{History, ListHistory, RefId, RingHistory};
 use std::alloc::{AllocError, Global};
 use std::test::Fail;
@@ -11,11 +11,11 @@ const CALLS: u64 = 4_000;
 
 // A generator of numbers: those of Lehmer, with the modulus 2^31 - 1.
 #[derive(Drop)]
-struct Numbers {
+struct NumberGenerator {
     last: u64,
 }
 
-impl Numbers {
+impl NumberGenerator {
     fn below(&mut self, bound: u64) -> u64
         requires { 0 < bound }
         ensures { result < bound }
@@ -40,33 +40,37 @@ fn with_no_refs<H: History>(alloc: Global, history: H) -> Side<H> {
 }
 
 // Of the ref that was made so many refs before the last one.
-fn tell<H: History>(side: &mut Side<H>, back: usize, call: Call) -> Result<Told, AllocError> {
-    if let Call::Make(number, least, most) = call {
+fn tell<H: History>(
+    side: &mut Side<H>,
+    back: usize,
+    call: HistoryCall,
+) -> Result<HistoryTold, AllocError> {
+    if let HistoryCall::Make(number, least, most) = call {
         let id = make(&mut side.history, number, least, most)?;
         side.refs.push(id)?;
-        return Ok(Told::Done);
+        return Ok(HistoryTold::Done);
     }
     match side.refs.iter().rev().nth(back) {
         Some(id) => told_of(&mut side.history, *id, call),
-        None => Ok(Told::Nothing),
+        None => Ok(HistoryTold::Nothing),
     }
 }
 
 // Stamps rise, and a point is at most the last stamp.
-fn call(numbers: &mut Numbers, stamp: u64) -> Call {
+fn call(numbers: &mut NumberGenerator, stamp: u64) -> HistoryCall {
     let number = numbers.below(1_000);
     let point = stamp.saturating_sub(numbers.below(40)) as u128;
     match numbers.below(16) {
-        0 => Call::Make(number as i64, number % 3, number % 9),
-        1 => Call::SetLeast(number % 6),
-        2 => Call::SetMost(number % 12),
-        3 => Call::Count,
-        4 => Call::BoundsOf,
-        5 => Call::Newest,
-        6 => Call::IsNewer(point),
-        7 if number < 300 => Call::DropRef,
-        8..=11 => Call::Read(point),
-        _ => Call::Add(stamp as u128, number as i64),
+        0 => HistoryCall::Make(number as i64, number % 3, number % 9),
+        1 => HistoryCall::SetLeast(number % 6),
+        2 => HistoryCall::SetMost(number % 12),
+        3 => HistoryCall::Count,
+        4 => HistoryCall::BoundsOf,
+        5 => HistoryCall::Newest,
+        6 => HistoryCall::IsNewer(point),
+        7 if number < 300 => HistoryCall::DropRef,
+        8..=11 => HistoryCall::Read(point),
+        _ => HistoryCall::Add(stamp as u128, number as i64),
     }
 }
 
@@ -74,7 +78,7 @@ fn call(numbers: &mut Numbers, stamp: u64) -> Call {
 fn both_histories_tell_the_same(rt: HostRuntime) -> Result<(), Fail> {
     let mut lists = with_no_refs(rt.alloc(), ListHistory::new(rt.alloc()));
     let mut rings = with_no_refs(rt.alloc(), RingHistory::new(rt.alloc()));
-    let mut numbers = Numbers { last: 1 };
+    let mut numbers = NumberGenerator { last: 1 };
     for stamp in 1..CALLS {
         let call = call(&mut numbers, stamp);
         let back = numbers.below(8) as usize;

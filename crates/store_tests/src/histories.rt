@@ -1,9 +1,9 @@
 // Calls of a history whose refs hold integers, of both kinds. How many versions it keeps is worked
 // out by hand from the Clojure reference.
-use crate::histories::Call::{
+use crate::histories::HistoryCall::{
     Add, BoundsOf, Count, DropRef, IsNewer, Make, Newest, Read, SetLeast, SetMost,
 };
-use crate::histories::Told::{Done, Kept, No, Nothing, Number, Yes};
+use crate::histories::HistoryTold::{Done, Kept, No, Nothing, Number, Yes};
 use ref_history::{Bounds, History, ListHistory, RefId, RingHistory};
 use std::alloc::AllocError;
 use std::process::Abort;
@@ -11,7 +11,7 @@ use std::test::Fail;
 use value_data::Value;
 
 #[derive(Clone, Copy, Debug)]
-pub(crate) enum Call {
+pub(crate) enum HistoryCall {
     /// A ref is made with this integer, and these bounds. The calls behind it are of this ref.
     Make(i64, u64, u64),
     /// It gets a version with this stamp and this integer, and tells how many it then keeps.
@@ -27,7 +27,7 @@ pub(crate) enum Call {
 }
 
 #[derive(Clone, Copy, Debug, PartialEq, Eq)]
-pub(crate) enum Told {
+pub(crate) enum HistoryTold {
     Done,
     Number(i64),
     Kept(u64),
@@ -49,21 +49,21 @@ pub(crate) fn make<H: History>(
 pub(crate) fn told_of<H: History>(
     history: &mut H,
     id: RefId,
-    call: Call,
-) -> Result<Told, AllocError> {
+    call: HistoryCall,
+) -> Result<HistoryTold, AllocError> {
     match call {
-        Call::Add(stamp, number) => return add(history, id, stamp, number),
-        Call::Read(point) => return Ok(number(history.read_at(id, point))),
-        Call::Newest => return Ok(number(history.newest(id))),
-        Call::IsNewer(point) => return Ok(answer(history.is_newer(id, point))),
-        Call::Count => return Ok(count(history, id)),
-        Call::BoundsOf => return Ok(bounds(history, id)),
-        Call::SetLeast(least) => history.set_least(id, least),
-        Call::SetMost(most) => history.set_most(id, most),
-        Call::DropRef => history.drop_ref(id),
-        Call::Make(..) => (),
+        HistoryCall::Add(stamp, number) => return add(history, id, stamp, number),
+        HistoryCall::Read(point) => return Ok(number(history.read_at(id, point))),
+        HistoryCall::Newest => return Ok(number(history.newest(id))),
+        HistoryCall::IsNewer(point) => return Ok(answer(history.is_newer(id, point))),
+        HistoryCall::Count => return Ok(count(history, id)),
+        HistoryCall::BoundsOf => return Ok(bounds(history, id)),
+        HistoryCall::SetLeast(least) => history.set_least(id, least),
+        HistoryCall::SetMost(most) => history.set_most(id, most),
+        HistoryCall::DropRef => history.drop_ref(id),
+        HistoryCall::Make(..) => (),
     }
-    Ok(Told::Done)
+    Ok(HistoryTold::Done)
 }
 
 fn add<H: History>(
@@ -71,40 +71,44 @@ fn add<H: History>(
     id: RefId,
     stamp: u128,
     number: i64,
-) -> Result<Told, AllocError> {
+) -> Result<HistoryTold, AllocError> {
     history.reserve(id)?;
     history.add_version(id, stamp, Value::Int(number));
     Ok(count(history, id))
 }
 
-fn number(found: Option<&Value>) -> Told {
+fn number(found: Option<&Value>) -> HistoryTold {
     match found {
-        Some(Value::Int(number)) => Told::Number(*number),
-        _ => Told::Nothing,
+        Some(Value::Int(number)) => HistoryTold::Number(*number),
+        _ => HistoryTold::Nothing,
     }
 }
 
-fn answer(is_so: bool) -> Told {
-    if is_so { Told::Yes } else { Told::No }
+fn answer(is_so: bool) -> HistoryTold {
+    if is_so {
+        HistoryTold::Yes
+    } else {
+        HistoryTold::No
+    }
 }
 
-fn count<H: History>(history: &H, id: RefId) -> Told {
+fn count<H: History>(history: &H, id: RefId) -> HistoryTold {
     match history.count(id) {
-        Some(count) => Told::Kept(count),
-        None => Told::Nothing,
+        Some(count) => HistoryTold::Kept(count),
+        None => HistoryTold::Nothing,
     }
 }
 
-fn bounds<H: History>(history: &H, id: RefId) -> Told {
+fn bounds<H: History>(history: &H, id: RefId) -> HistoryTold {
     match history.bounds(id) {
-        Some(bounds) => Told::Bounds(bounds.least, bounds.most),
-        None => Told::Nothing,
+        Some(bounds) => HistoryTold::Bounds(bounds.least, bounds.most),
+        None => HistoryTold::Nothing,
     }
 }
 
 // A failed read keeps one version more, and stamps go up to the greatest of 128 bits. Of a ref that
 // was dropped nothing is left, and another is made beside it.
-const STEPS: &[(Call, Told)] = &[
+const STEPS: &[(HistoryCall, HistoryTold)] = &[
     (Make(1, 0, 10), Done),
     (IsNewer(0), No),
     (Add(4, 2), Kept(0)),
@@ -120,7 +124,7 @@ const STEPS: &[(Call, Told)] = &[
     (IsNewer(u128::MAX), No),
     (SetLeast(2), Done),
     (SetMost(3), Done),
-    (BoundsOf, Told::Bounds(2, 3)),
+    (BoundsOf, HistoryTold::Bounds(2, 3)),
     (DropRef, Done),
     (DropRef, Done),
     (Add(1, 3), Nothing),
@@ -142,7 +146,11 @@ const STEPS: &[(Call, Told)] = &[
     (Read(6), Number(3)),
 ];
 
-fn take<H: History>(rt: &impl Abort, mut history: H, steps: &[(Call, Told)]) -> Result<(), Fail> {
+fn take<H: History>(
+    rt: &impl Abort,
+    mut history: H,
+    steps: &[(HistoryCall, HistoryTold)],
+) -> Result<(), Fail> {
     let mut id = make(&mut history, 0, 0, 0)?;
     for (place, (call, wanted)) in steps.iter().enumerate() {
         if let Make(number, least, most) = *call {

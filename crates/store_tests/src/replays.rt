@@ -49,7 +49,7 @@ pub(crate) fn answers_of(alloc: Global, given: &[Given]) -> Result<Vec<Answer>, 
 
 /// What an ask is answered, or what an evaluation comes to.
 #[derive(Clone, Copy, Debug, PartialEq, Eq)]
-pub(crate) enum Told {
+pub(crate) enum WalkTold {
     Int(i64),
     /// A fault: a shared ref was to hold what is not plain.
     NotPlain,
@@ -58,31 +58,31 @@ pub(crate) enum Told {
     Stopped(AnswerKind),
 }
 
-fn read(alloc: Global, replay: &mut Replay) -> Told {
+fn read(alloc: Global, replay: &mut Replay) -> WalkTold {
     let answered = replay.ask(alloc, Ask::Read(FIRST));
     match &answered {
-        Ok(Answer::Reading(Reading::Found(Value::Int(number)))) => Told::Int(*number),
-        Ok(_other) => Told::Other,
+        Ok(Answer::Reading(Reading::Found(Value::Int(number)))) => WalkTold::Int(*number),
+        Ok(_other) => WalkTold::Other,
         Err(stop) => stop_told(stop),
     }
 }
 
-fn stop_told(stop: &Stop) -> Told {
+fn stop_told(stop: &Stop) -> WalkTold {
     if stop.why == StopReason::NoAnswer {
-        Told::Stopped(stop.ask.kind())
+        WalkTold::Stopped(stop.ask.kind())
     } else {
-        Told::Other
+        WalkTold::Other
     }
 }
 
-const STOPPED: Told = Told::Stopped(AnswerKind::Reading);
+const STOPPED: WalkTold = WalkTold::Stopped(AnswerKind::Reading);
 
 // The answers of a replay, and what one read after the other is told. Who stopped answers no more,
 // also where the next answer would fit.
-const REPLAYS: &[(&[Given], &[Told])] = &[
+const REPLAYS: &[(&[Given], &[WalkTold])] = &[
     (
         &[Given::Found(5), Given::Found(6)],
-        &[Told::Int(5), Told::Int(6), STOPPED, STOPPED],
+        &[WalkTold::Int(5), WalkTold::Int(6), STOPPED, STOPPED],
     ),
     (&[Given::Done, Given::Found(5)], &[STOPPED, STOPPED]),
     (&[Given::Int(1), Given::Found(5)], &[STOPPED, STOPPED]),

@@ -10,7 +10,7 @@ use std::test::Fail;
 
 /// A call. Where it names a tenant, that is the caller; and a point is told by its stamp.
 #[derive(Clone, Copy)]
-pub(crate) enum Call {
+pub(crate) enum TableCall {
     /// A ref of an integer, which keeps no version behind its newest until a read asks for one.
     Make(Owner, i64),
     Begin,
@@ -29,7 +29,7 @@ pub(crate) enum Call {
 
 /// What a call tells.
 #[derive(Clone, Copy, Debug, PartialEq, Eq)]
-pub(crate) enum Told {
+pub(crate) enum TableTold {
     Made(RefName),
     /// The stamp of the point.
     Begun(u128),
@@ -47,16 +47,16 @@ pub(crate) enum Told {
     Count(u64),
 }
 
-pub(crate) type Step = (Call, Told);
+pub(crate) type TableStep = (TableCall, TableTold);
 
-type Table = RefTable<RingHistory>;
+type TestedTable = RefTable<RingHistory>;
 
-pub(crate) fn new_table(alloc: Global) -> Table {
+pub(crate) fn new_table(alloc: Global) -> TestedTable {
     RefTable::new(alloc, RingHistory::new(alloc))
 }
 
 /// Takes these steps with a new table.
-pub(crate) fn check(rt: &impl Abort, alloc: Global, steps: &[Step]) -> Result<(), Fail> {
+pub(crate) fn check(rt: &impl Abort, alloc: Global, steps: &[TableStep]) -> Result<(), Fail> {
     take(rt, alloc, &mut new_table(alloc), steps)?;
     Ok(())
 }
@@ -64,8 +64,8 @@ pub(crate) fn check(rt: &impl Abort, alloc: Global, steps: &[Step]) -> Result<()
 pub(crate) fn take(
     rt: &impl Abort,
     alloc: Global,
-    table: &mut Table,
-    steps: &[Step],
+    table: &mut TestedTable,
+    steps: &[TableStep],
 ) -> Result<(), AllocError> {
     for (place, (call, wanted)) in steps.iter().enumerate() {
         let told = told_of(rt, alloc, table, *call)?;
@@ -74,90 +74,97 @@ pub(crate) fn take(
     Ok(())
 }
 
-fn expect(rt: &impl Abort, place: usize, told: Told, wanted: Told) {
+fn expect(rt: &impl Abort, place: usize, told: TableTold, wanted: TableTold) {
     assert_eq!(rt; told, wanted, "at step {place}");
 }
 
 fn told_of(
     rt: &impl Abort,
     alloc: Global,
-    table: &mut Table,
-    call: Call,
-) -> Result<Told, AllocError> {
+    table: &mut TestedTable,
+    call: TableCall,
+) -> Result<TableTold, AllocError> {
     match call {
-        Call::Make(owner, number) => make(alloc, table, owner, number),
-        Call::Begin => Ok(Told::Begun(table.begin().stamp)),
-        Call::Commit(caller, wants, stamp) => {
+        TableCall::Make(owner, number) => make(alloc, table, owner, number),
+        TableCall::Begin => Ok(TableTold::Begun(table.begin().stamp)),
+        TableCall::Commit(caller, wants, stamp) => {
             let intent = intent_of(rt, alloc, wants)?;
             commit(alloc, table, caller, &intent, Point { stamp })
         }
-        Call::Accepts(caller, wants) => {
+        TableCall::Accepts(caller, wants) => {
             let intent = intent_of(rt, alloc, wants)?;
             Ok(answer(table.accepts(alloc, caller, &intent)))
         }
-        Call::Read(caller, name) => read(table, caller, name, None),
-        Call::ReadAt(caller, name, stamp) => read(table, caller, name, Some(Point { stamp })),
-        Call::SetLeast(caller, name, least) => Ok(answer(table.set_least(caller, name, least))),
-        Call::SetMost(caller, name, most) => Ok(answer(table.set_most(caller, name, most))),
-        Call::BoundsOf(caller, name) => Ok(bounds(table, caller, name)),
-        Call::CountOf(caller, name) => Ok(count(table, caller, name)),
-        Call::Release(tenant) => {
+        TableCall::Read(caller, name) => read(table, caller, name, None),
+        TableCall::ReadAt(caller, name, stamp) => read(table, caller, name, Some(Point { stamp })),
+        TableCall::SetLeast(caller, name, least) => Ok(answer(table.set_least(
+            caller, name, least,
+        ))),
+        TableCall::SetMost(caller, name, most) => Ok(answer(table.set_most(caller, name, most))),
+        TableCall::BoundsOf(caller, name) => Ok(bounds(table, caller, name)),
+        TableCall::CountOf(caller, name) => Ok(count(table, caller, name)),
+        TableCall::Release(tenant) => {
             table.release(tenant);
-            Ok(Told::Yes)
+            Ok(TableTold::Yes)
         }
     }
 }
 
-fn make(alloc: Global, table: &mut Table, owner: Owner, number: i64) -> Result<Told, AllocError> {
+fn make(
+    alloc: Global,
+    table: &mut TestedTable,
+    owner: Owner,
+    number: i64,
+) -> Result<TableTold, AllocError> {
     let bounds = Bounds { least: 0, most: 10 };
-    Ok(Told::Made(table.make(alloc, owner, Value::Int(number), bounds)?))
+    Ok(TableTold::Made(table.make(alloc, owner, Value::Int(number), bounds)?))
 }
 
 fn commit(
     alloc: Global,
-    table: &mut Table,
+    table: &mut TestedTable,
     caller: u64,
     intent: &Intent,
     point: Point,
-) -> Result<Told, AllocError> {
+) -> Result<TableTold, AllocError> {
     if table.begin().stamp == u128::MAX {
-        return Ok(Told::Refused);
+        return Ok(TableTold::Refused);
     }
     Ok(match table.commit(alloc, caller, intent, point)? {
-        CommitOutcome::Committed => Told::Committed,
-        CommitOutcome::Conflict => Told::Conflict,
-        CommitOutcome::Faulted(_fault) => Told::Fault,
-        CommitOutcome::Refused => Told::Refused,
+        CommitOutcome::Committed => TableTold::Committed,
+        CommitOutcome::Conflict => TableTold::Conflict,
+        CommitOutcome::Faulted(_fault) => TableTold::Fault,
+        CommitOutcome::Refused => TableTold::Refused,
     })
 }
 
 fn read(
-    table: &mut Table,
+    table: &mut TestedTable,
     caller: u64,
     name: RefName,
     point: Option<Point>,
-) -> Result<Told, AllocError> {
+) -> Result<TableTold, AllocError> {
     match table.read(caller, name, point)? {
-        Some(Reading::Found(Value::Int(number))) => Ok(Told::Number(number)),
-        Some(Reading::Retry) => Ok(Told::Retry),
-        _ => Ok(Told::Nothing),
+        Some(Reading::Found(Value::Int(number))) => Ok(TableTold::Number(number)),
+        Some(Reading::Retry) => Ok(TableTold::Retry),
+        _ => Ok(TableTold::Nothing),
     }
 }
 
-fn answer(is_so: bool) -> Told {
-    if is_so { Told::Yes } else { Told::No }
+fn answer(is_so: bool) -> TableTold {
+    if is_so { TableTold::Yes } else { TableTold::No }
 }
 
-fn bounds(table: &Table, caller: u64, name: RefName) -> Told {
+fn bounds(table: &TestedTable, caller: u64, name: RefName) -> TableTold {
     match table.bounds(caller, name) {
-        Some(bounds) => Told::Bounds(bounds.least, bounds.most),
-        None => Told::Nothing,
+        Some(bounds) => TableTold::Bounds(bounds.least, bounds.most),
+        None => TableTold::Nothing,
     }
 }
 
-fn count(table: &Table, caller: u64, name: RefName) -> Told {
+fn count(table: &TestedTable, caller: u64, name: RefName) -> TableTold {
     match table.history_count(caller, name) {
-        Some(count) => Told::Count(count),
-        None => Told::Nothing,
+        Some(count) => TableTold::Count(count),
+        None => TableTold::Nothing,
     }
 }

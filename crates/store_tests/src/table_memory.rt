@@ -3,13 +3,13 @@ use crate::given::Given::Int;
 use crate::given::{FIRST, OTHERS, OURS, SECOND};
 use crate::intents::Want;
 use crate::intents::Want::{Commute, Set};
-use crate::steps::Call::{Begin, Commit, CountOf, Make, Read, ReadAt, SetLeast};
-use crate::steps::Told::{Begun, Committed, Count, Made, Nothing, Number, Yes};
-use crate::steps::{Step, new_table, take};
+use crate::steps::TableCall::{Begin, Commit, CountOf, Make, Read, ReadAt, SetLeast};
+use crate::steps::TableTold::{Begun, Committed, Count, Made, Nothing, Number, Yes};
+use crate::steps::{TableStep, new_table, take};
 use repl_values::Owner;
 use std::test::Fail;
 
-const BEFORE: &[Step] = &[
+const BEFORE: &[TableStep] = &[
     (Make(Owner::Tenant(1), 1), Made(FIRST)),
     (Make(Owner::Tenant(1), 2), Made(SECOND)),
     (SetLeast(1, FIRST, 1), Yes),
@@ -17,7 +17,7 @@ const BEFORE: &[Step] = &[
     (Begin, Begun(0)),
 ];
 
-const AS_IT_WAS: &[Step] = &[
+const AS_IT_WAS: &[TableStep] = &[
     (Begin, Begun(0)),
     (CountOf(1, FIRST), Count(0)),
     (CountOf(1, SECOND), Count(0)),
@@ -31,9 +31,9 @@ const WANTS: &[Want] = &[
     Commute(SECOND, "*", &[Int(3)]),
 ];
 
-const COMMIT: &[Step] = &[(Commit(1, WANTS, 0), Committed)];
+const COMMIT: &[TableStep] = &[(Commit(1, WANTS, 0), Committed)];
 
-const AFTER: &[Step] = &[
+const AFTER: &[TableStep] = &[
     (Read(1, FIRST), Number(3)),
     (Read(1, SECOND), Number(18)),
     (ReadAt(1, FIRST, 0), Number(1)),
@@ -55,7 +55,7 @@ fn commit_that_fails_changes_nothing(rt: HostRuntime) -> Result<(), Fail> {
     Ok(())
 }
 
-const NUMBERED: &[Step] = &[
+const NUMBERED: &[TableStep] = &[
     (Make(Owner::Tenant(1), 1), Made(FIRST)),
     (Read(2, FIRST), Nothing),
     (Make(Owner::Shared, 1), Made(OURS)),

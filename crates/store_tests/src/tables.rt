@@ -3,21 +3,21 @@ use crate::given::Given::{Int, Ref};
 use crate::given::{FIRST, OTHERS, OURS, SECOND};
 use crate::intents::Want;
 use crate::intents::Want::{Commute, Ensure, Hold, Set};
-use crate::steps::Call::{
+use crate::steps::TableCall::{
     Accepts, Begin, BoundsOf, Commit, CountOf, Make, Read, ReadAt, Release, SetLeast, SetMost,
 };
-use crate::steps::Told::{
+use crate::steps::TableTold::{
     Begun, Bounds, Committed, Conflict, Count, Fault, Made, No, Nothing, Number, Refused, Retry,
     Yes,
 };
-use crate::steps::{Step, check};
+use crate::steps::{TableStep, check};
 use repl_values::Owner;
 use std::test::Fail;
 
 const BOTH: &[Want] = &[Set(FIRST, 2), Commute(OURS, "+", &[Int(4)])];
 
 // The bounds of a shared ref are not set, nor does a tenant reach another's ref.
-const OF_TWO_TENANTS: &[Step] = &[
+const OF_TWO_TENANTS: &[TableStep] = &[
     (Make(Owner::Tenant(1), 1), Made(FIRST)),
     (Make(Owner::Tenant(2), 1), Made(OTHERS)),
     (Make(Owner::Tenant(1), 1), Made(SECOND)),
@@ -74,7 +74,7 @@ const PLAIN_AT_LAST: &[Want] = &[
 
 // A ref that is set twice, one that is not there, as `SECOND`, one of another tenant, a function
 // without its argument; and a shared ref that is to hold another.
-const WRONG: &[Step] = &[
+const WRONG: &[TableStep] = &[
     (Make(Owner::Tenant(1), 1), Made(FIRST)),
     (Make(Owner::Tenant(2), 1), Made(OTHERS)),
     (Make(Owner::Shared, 1), Made(OURS)),

@@ -1,8 +1,8 @@
 // Evaluations over answers that are known beforehand: what they come to, or where they stop.
 use crate::given::{FIRST, OURS};
 use crate::replays::Given::{Atom, Committed, Done, Found, Has, Int, Ref, Tried};
-use crate::replays::Told::{NotPlain, Other, Stopped};
-use crate::replays::{Given, Told, answers_of};
+use crate::replays::WalkTold::{NotPlain, Other, Stopped};
+use crate::replays::{Given, WalkTold, answers_of};
 use repl_asks::{AnswerKind, End, Job, Replay, Work};
 use repl_reader::read_all;
 use repl_values::{Fault, Value};
@@ -22,15 +22,15 @@ fn job(alloc: Global, code: &str) -> Result<Job, AllocError> {
     })
 }
 
-fn ending_told(ending: &Ending) -> Told {
+fn ending_told(ending: &Ending) -> WalkTold {
     match ending.end().end() {
-        End::Value(Value::Int(number)) => Told::Int(*number),
+        End::Value(Value::Int(number)) => WalkTold::Int(*number),
         End::Value(_other) => Other,
         End::Fault(fault) => fault_told(fault),
     }
 }
 
-fn fault_told(fault: &Fault) -> Told {
+fn fault_told(fault: &Fault) -> WalkTold {
     if fault.text.as_str() == "Only plain data goes into a shared ref" {
         NotPlain
     } else {
@@ -38,13 +38,13 @@ fn fault_told(fault: &Fault) -> Told {
     }
 }
 
-fn copied_ending_told(alloc: Global, ending: &Ending) -> Result<Told, AllocError> {
+fn copied_ending_told(alloc: Global, ending: &Ending) -> Result<WalkTold, AllocError> {
     let copied = ending.copy(alloc)?;
     Ok(ending_told(&copied))
 }
 
 // What a walk comes to, told of a copy of its ending.
-fn walked(alloc: Global, code: &str, given: &[Given]) -> Result<Told, AllocError> {
+fn walked(alloc: Global, code: &str, given: &[Given]) -> Result<WalkTold, AllocError> {
     let job = job(alloc, code)?;
     let mut replay = Replay::new(alloc, answers_of(alloc, given)?);
     match walk(alloc, &job, &mut replay) {
@@ -56,9 +56,9 @@ fn walked(alloc: Global, code: &str, given: &[Given]) -> Result<Told, AllocError
 
 // A form, the answers that it is given, and what is told. What `s` names is shared by all tenants,
 // so that it may hold plain data alone.
-const WALKS: &[(&str, &[Given], Told)] = &[
-    ("7", &[], Told::Int(7)),
-    ("(do x y)", &[Int(1), Int(2)], Told::Int(2)),
+const WALKS: &[(&str, &[Given], WalkTold)] = &[
+    ("7", &[], WalkTold::Int(7)),
+    ("(do x y)", &[Int(1), Int(2)], WalkTold::Int(2)),
     ("(f x)", &[Int(1)], Other),
     ("(def x 1)", &[Done], Other),
     ("x", &[], Stopped(AnswerKind::Resolution)),
@@ -70,7 +70,7 @@ const WALKS: &[(&str, &[Given], Told)] = &[
     (
         "(dosync (clojure.core/ref-set s 5))",
         &[Done, Ref(OURS), Committed],
-        Told::Int(5),
+        WalkTold::Int(5),
     ),
     (
         "(dosync (clojure.core/alter s clojure.core/list r))",
@@ -85,12 +85,12 @@ const WALKS: &[(&str, &[Given], Told)] = &[
     (
         "(clojure.core/swap! t clojure.core/+ 2)",
         &[Atom, Has(1), Tried(true)],
-        Told::Int(3),
+        WalkTold::Int(3),
     ),
     (
         "(clojure.core/swap! t clojure.core/+ 2)",
         &[Atom, Has(1), Tried(false), Has(5), Tried(true)],
-        Told::Int(7),
+        WalkTold::Int(7),
     ),
     (
         "(clojure.core/swap! t clojure.core/+ 2)",
@@ -98,7 +98,7 @@ const WALKS: &[(&str, &[Given], Told)] = &[
         Stopped(AnswerKind::Value),
     ),
     ("(clojure.core/swap! x clojure.core/+ 2)", &[Int(1)], Other),
-    ("(clojure.core/deref t)", &[Atom, Has(6)], Told::Int(6)),
+    ("(clojure.core/deref t)", &[Atom, Has(6)], WalkTold::Int(6)),
 ];
 
 // Where a walk is refused memory it is made once more, and comes to the same.
@@ -125,7 +125,7 @@ fn answers_are_left_for_the_next(rt: HostRuntime) -> Result<(), Fail> {
     let Ok(second) = walk(a, &job(a, "y")?, &mut replay) else {
         panic!(rt; "the second stopped");
     };
-    assert_eq!(rt; ending_told(&first), Told::Int(1));
-    assert_eq!(rt; ending_told(&second), Told::Int(2));
+    assert_eq!(rt; ending_told(&first), WalkTold::Int(1));
+    assert_eq!(rt; ending_told(&second), WalkTold::Int(2));
     Ok(())
 }

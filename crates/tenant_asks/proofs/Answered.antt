@@ -2,7 +2,7 @@
 use Rattle.std.proofs.Common.{◌≡◌, ℕ, true, false, Option, None, Some, MatchOption, Result, Ok, Err}
 use Rattle.std.proofs.Common.{IfOk, refl, sym, ap, subst, ◌∙◌, Bool, is_some, true≢false}
 use Rattle.repl_asks.specs.Exchange.{AskData, AnswerData, done}
-use Rattle.ref_table.specs.Calls.{Call, performed}
+use Rattle.ref_table.specs.Calls.{StoreCall, performed}
 use Rattle.server_rules.specs.Cells.{CellsData, SenderData, with_sends_if}
 use Rattle.ref_table.specs.Performed.{Performed, tells}
 use Rattle.server_rules.specs.Ground.{Ground}
@@ -11,7 +11,7 @@ use Rattle.server_rules.specs.Tenant.{TenantState, seat_of}
 use Rattle.server_rules.specs.Asking.{answer_to, state_after, call_of, is_allowed}
 use Rattle.server_rules.specs.declared.actor.Actor.{Actor}
 use Rattle.ref_history.specs.RingHistories.{RingStands}
-use Rattle.ref_table.specs.Refs.{Refs, refs_after}
+use Rattle.ref_table.specs.Refs.{TableRefs, refs_after}
 use Rattle.ref_table.specs.Standing as refs
 use Rattle.tenant_parts.specs.Attempts.{Reaches}
 use Rattle.tenant_asks.specs.Asking.{is_of_names, is_of_cells, Answers}
@@ -32,7 +32,7 @@ use Rattle.tenant_parts.proofs.Serving.{refs_after-seen, holds-refs_after}
 
 -- an ask of names, of atoms or of agents changes none of them
 pub alone-answered : (g : Ground) (t : ℕ) (a : Actor) (sender : SenderData) (q : TenantState) (ask : AskData)
-    (s : Store) (r : Refs) (m : Remembered) (table : RingRefTable) (attempts : Attempts)
+    (s : Store) (r : TableRefs) (m : Remembered) (table : RingRefTable) (attempts : Attempts)
     (answer : AnswerData) → ServesWithAttempts table attempts s r
     → performed s (call_of (seat_of a) ask) ≡ tells done s
     → answer ≡ answer_to g a q ask done → Remembers g t m (state_after sender ask answer q)
@@ -48,7 +48,7 @@ alone-answered g t a sender q ask s r m table attempts answer holds alone is rem
     })
 
 -- nothing was told
-holds-untold : (new old : RingRefTable) (attempts later : Attempts) (s : Store) (r : Refs) (call : Call)
+holds-untold : (new old : RingRefTable) (attempts later : Attempts) (s : Store) (r : TableRefs) (call : StoreCall)
     → ServesWithAttempts old attempts s r → PerformsCall new later r None (performed s call) → ServesWithAttempts new later s r
 holds-untold new old attempts later s r call holds comes =
     let same = untold-stays s call comes.called.told in
@@ -67,7 +67,7 @@ abbrev pub with_cells : CellsData → TenantState → TenantState
 with_cells c q = record q { cells = c }
 
 pub refs-answered : {E : Type 0} (g : Ground) (t : ℕ) (a : Actor) (sender : SenderData) (q : TenantState)
-    (ask : AskData) (s : Store) (r : Refs) (m : Remembered) (new old : RingRefTable)
+    (ask : AskData) (s : Store) (r : TableRefs) (m : Remembered) (new old : RingRefTable)
     (attempts later : Attempts) (result : Result (Option AnswerCopies) E)
     → ServesWithAttempts old attempts s r → is_of_names ask ≡ false → is_of_cells ask ≡ false
     → is_allowed ask q.cells ≡ true

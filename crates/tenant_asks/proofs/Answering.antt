@@ -6,7 +6,7 @@ use Rattle.std.specs.Result.{IsErrAnd}
 use Rattle.std.proofs.lemmas.Bool.{and_parts, ltb-true}
 use Rattle.repl_asks.specs.Exchange as exchange
 use Rattle.repl_asks.specs.Exchange.{AskData, AnswerData}
-use Rattle.ref_table.specs.Calls.{Call, nothing, inside, gives_up, performed, given_up, told_inside}
+use Rattle.ref_table.specs.Calls.{StoreCall, nothing, inside, gives_up, performed, given_up, told_inside}
 use Rattle.ref_table.specs.Calls.{told_outside}
 use Rattle.server_rules.specs.Ground.{Ground}
 use Rattle.server_rules.specs.Request.{WorkInHand, Run}
@@ -73,7 +73,7 @@ stands-inside s (Some point) told = refl
 sends-told : (seat : ℕ) (s : Store) → is_some (performed s (may_send_call seat)).told ≡ true
     → performed s (may_send_call seat) ≡ tells exchange.done s
 sends-told seat s told = by (seat == 0) told where
-  call_by : Bool → Call
+  call_by : Bool → StoreCall
   call_by b = if b then nothing else inside seat
 
   by : (b : Bool) → is_some (performed s (call_by b)).told ≡ true

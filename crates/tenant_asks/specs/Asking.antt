@@ -13,7 +13,7 @@ use Rattle.server_rules.specs.Asking.{answer_to, state_after, ask_outcome, call_
 use Rattle.server_rules.specs.Plan.{Plan}
 use Rattle.server_rules.specs.declared.actor.Actor.{Actor}
 use Rattle.server_rules.specs.declared.refusal.Refusal.{Refusal}
-use Rattle.ref_table.specs.Refs.{Refs, refs_after}
+use Rattle.ref_table.specs.Refs.{TableRefs, refs_after}
 use Rattle.tenant_asks.specs.Memories.{Remembers}
 use Rattle.tenant_parts.specs.Serving.{RingRefTable, ServesWithAttempts}
 use Rattle.tenant_parts.specs.declared.attempts.Attempts.{Attempts}
@@ -54,7 +54,7 @@ why_waiting told = if told then Refusal.Waiting else Refusal.Idle
 
 -- the refs told something, of which this answer is made, and all is as the rules leave it
 pub record Answers (g : Ground) (t : ℕ) (a : Actor) (sender : SenderData) (q : TenantState) (ask : AskData)
-    (p : Performed Store) (m : Remembered) (table : RingRefTable) (attempts : Attempts) (r : Refs)
+    (p : Performed Store) (m : Remembered) (table : RingRefTable) (attempts : Attempts) (r : TableRefs)
     (answer : AnswerData) : Type 0 where
   pub told : AnswerData
   pub is_told : p.told ≡ Some told

@@ -2,7 +2,7 @@
 -- table serves.
 use Rattle.std.specs.Prelude.{◌≡◌, true, Result, Err, IfOk, IfErr}
 use Rattle.repl_asks.specs.Exchange.{AskData}
-use Rattle.ref_table.specs.Refs.{Refs, refs_after}
+use Rattle.ref_table.specs.Refs.{TableRefs, refs_after}
 use Rattle.server_rules.specs.Asking.{asked_of}
 use Rattle.server_rules.specs.DeedResult.{DeedResult, carried_out}
 use Rattle.server_rules.specs.Ground.{Ground}
@@ -36,7 +36,7 @@ asked_result g a state ask q s = carried_out s (asked_of g a state ask q state.h
 -- where the call succeeds, the ask is accepted, and this is its answer
 abbrev pub AcceptsAsk : {A : Type 0} → Actor → AskData → Site → Site → Result A Refusal
     → (A → StepAnswer) → Type 0
-AcceptsAsk a ask old new result answer = (g : Ground) (q : TenantState) (s : Store) (r : Refs)
+AcceptsAsk a ask old new result answer = (g : Ground) (q : TenantState) (s : Store) (r : TableRefs)
     → Remembers g s.tenant old.memory q → ServesWithAttempts old.table old.attempts s r
     → let d = asked_result g a old.state ask q s in IfOk result (λ x.
     AcceptsOutcome g s.tenant a q d.outcome new.memory new.state (answer x)
@@ -45,7 +45,7 @@ AcceptsAsk a ask old new result answer = (g : Ground) (q : TenantState) (s : Sto
 -- where it fails, the ask is refused so, unless for want of memory, and nothing has changed
 abbrev pub RefusesAsk : {A : Type 0} → Actor → AskData → Site → Site → Result A Refusal
     → Type 0
-RefusesAsk a ask old new result = (g : Ground) (q : TenantState) (s : Store) (r : Refs)
+RefusesAsk a ask old new result = (g : Ground) (q : TenantState) (s : Store) (r : TableRefs)
     → Remembers g s.tenant old.memory q → ServesWithAttempts old.table old.attempts s r
     → let d = asked_result g a old.state ask q s in IfErr result (λ why.
     RefusesOutcome g s.tenant q d.outcome new.memory why
@@ -53,7 +53,7 @@ RefusesAsk a ask old new result = (g : Ground) (q : TenantState) (s : Store) (r 
 
 -- memory is refused only where the ask is accepted
 abbrev pub LacksMemoryForAsk : {A : Type 0} → Actor → AskData → Site → Result A Refusal → Type 0
-LacksMemoryForAsk a ask old result = (g : Ground) (q : TenantState) (s : Store) (r : Refs)
+LacksMemoryForAsk a ask old result = (g : Ground) (q : TenantState) (s : Store) (r : TableRefs)
     → Remembers g s.tenant old.memory q → ServesWithAttempts old.table old.attempts s r
     → result ≡ Err Refusal.NoMemory
     → is_accepted (asked_result g a old.state ask q s).outcome ≡ true

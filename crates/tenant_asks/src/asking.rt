@@ -14,7 +14,7 @@ ghost use Rattle.server_rules.specs.Cells.{with_sends_if, must_wait};
 ghost use Rattle.ref_table.specs.Store.{Store, left_attempt};
 ghost use Rattle.server_rules.specs.Asking.{call_of, sender_of, session_number};
 ghost use Rattle.server_rules.specs.Asking as meant;
-ghost use Rattle.ref_table.specs.Refs.{Refs, refs_after};
+ghost use Rattle.ref_table.specs.Refs.{TableRefs, refs_after};
 ghost use Rattle.ref_table.specs.Standing.{counter_of};
 ghost use Rattle.tenant_parts.specs.View.{actor_view, hand_view};
 ghost use Rattle.server_rules.specs.DeedResult.{carried_out};
@@ -161,7 +161,7 @@ fn why_waiting(
     actor: Actor,
     ask: &Ask,
 ) -> Refusal
-    ensures why { (s : Store) (r : Refs) → ServesWithAttempts refs.now attempts.now s r → result
+    ensures why { (s : Store) (r : TableRefs) → ServesWithAttempts refs.now attempts.now s r → result
         ≡ why_waiting (is_some (performed s (call_of (seat_of actor) (ask_view ask.now))).told) }
     ensures frugal { result ≢ Refusal.NoMemory }
     ensures free { result ≢ Refusal.Held }
@@ -184,7 +184,7 @@ fn give_up(
     origin: &Arc<Origin>,
     ask: &Ask,
 ) -> Result<(), Refusal>
-    ensures gone { (g : Ground) (q : TenantState) (s : Store) (r : Refs)
+    ensures gone { (g : Ground) (q : TenantState) (s : Store) (r : TableRefs)
         → Remembers g s.tenant memory.old q → ServesWithAttempts refs.now attempts.old s r
         → OnOk result
         ((is_some (performed s (call_of (seat_of actor) (ask_view ask.now))).told ≡ true)
@@ -192,12 +192,12 @@ fn give_up(
         (with_replies (reply (origin_view (arc_value origin.now)) interrupted ∷ []) q)
         × ServesWithAttempts refs.now attempts.new (left_attempt (seat_of actor) s)
         (refs_after (left_attempt (seat_of actor) s) r)) }
-    ensures stays { (g : Ground) (q : TenantState) (s : Store) (r : Refs)
+    ensures stays { (g : Ground) (q : TenantState) (s : Store) (r : TableRefs)
         → Remembers g s.tenant memory.old q → ServesWithAttempts refs.now attempts.old s r
         → IfErr result (λ why. (why ≢ Refusal.NoMemory → (why ≡ Refusal.Idle)
         × ((performed s (call_of (seat_of actor) (ask_view ask.now))).told ≡ None))
         × Remembers g s.tenant memory.new q × ServesWithAttempts refs.now attempts.new s r) }
-    ensures no_memory { (s : Store) (r : Refs) → ServesWithAttempts refs.now attempts.old s r
+    ensures no_memory { (s : Store) (r : TableRefs) → ServesWithAttempts refs.now attempts.old s r
         → result ≡ Err Refusal.NoMemory
         → is_some (performed s (call_of (seat_of actor) (ask_view ask.now))).told ≡ true }
     ensures opened { opened_by memory.new ≡ opened_by memory.old }
@@ -224,7 +224,7 @@ fn answer(
 ) -> Result<AskAnswers, Refusal>
     requires counted { counter_of refs.old < u128.MAX }
     requires hand { is_some state.old.hand ≡ true }
-    ensures acted { (g : Ground) (q : TenantState) (s : Store) (r : Refs) (h : rules.WorkInHand)
+    ensures acted { (g : Ground) (q : TenantState) (s : Store) (r : TableRefs) (h : rules.WorkInHand)
         (run : rules.Run) → Remembers g s.tenant memory.old q
         → ServesWithAttempts refs.old attempts.old s r
         → meant.is_allowed (ask_view ask.now) q.cells ≡ true
@@ -234,7 +234,7 @@ fn answer(
         (λ x. AcceptsOutcome g s.tenant actor q d.outcome memory.new
         (actor_view state.new) (ask_answer_view x.given)
         × ServesWithAttempts refs.new attempts.new d.store (refs_after d.store r)) }
-    ensures declined { (g : Ground) (q : TenantState) (s : Store) (r : Refs) (h : rules.WorkInHand)
+    ensures declined { (g : Ground) (q : TenantState) (s : Store) (r : TableRefs) (h : rules.WorkInHand)
         (run : rules.Run) → Remembers g s.tenant memory.old q
         → ServesWithAttempts refs.old attempts.old s r
         → meant.is_allowed (ask_view ask.now) q.cells ≡ true
@@ -242,7 +242,7 @@ fn answer(
         (ask_view ask.now) q) in IfErr result (λ why.
         RefusesOutcome g s.tenant q d.outcome memory.new why
         × ServesWithAttempts refs.new attempts.new s r) }
-    ensures no_memory { (g : Ground) (q : TenantState) (s : Store) (r : Refs) (h : rules.WorkInHand)
+    ensures no_memory { (g : Ground) (q : TenantState) (s : Store) (r : TableRefs) (h : rules.WorkInHand)
         (run : rules.Run) → Remembers g s.tenant memory.old q
         → ServesWithAttempts refs.old attempts.old s r → result ≡ Err Refusal.NoMemory
         → is_accepted (carried_out s (answered_plan g actor (actor_view state.old) h run
@@ -282,10 +282,10 @@ fn why_refused(
     actor: Actor,
     ask: &Ask,
 ) -> Refusal
-    ensures idle { (s : Store) (r : Refs) → ServesWithAttempts refs.now attempts.now s r
+    ensures idle { (s : Store) (r : TableRefs) → ServesWithAttempts refs.now attempts.now s r
         → result ≢ Refusal.NoMemory → (result ≡ Refusal.Idle)
         × ((performed s (call_of (seat_of actor) (ask_view ask.now))).told ≡ None) }
-    ensures no_memory { (s : Store) (r : Refs) → ServesWithAttempts refs.now attempts.now s r
+    ensures no_memory { (s : Store) (r : TableRefs) → ServesWithAttempts refs.now attempts.now s r
         → result ≡ Refusal.NoMemory
         → is_some (performed s (call_of (seat_of actor) (ask_view ask.now))).told ≡ true }
     ensures free { result ≢ Refusal.Held }
@@ -329,7 +329,7 @@ fn perform_ask(
     ask: &Ask,
 ) -> Result<Option<AnswerCopies>, AllocError>
     requires { counter_of refs.old < u128.MAX }
-    ensures answered { (g : Ground) (q : TenantState) (s : Store) (r : Refs)
+    ensures answered { (g : Ground) (q : TenantState) (s : Store) (r : TableRefs)
         → Remembers g s.tenant memory.old q → ServesWithAttempts refs.old attempts.old s r
         → meant.is_allowed (ask_view ask.now) q.cells ≡ true
         → let p = performed s (call_of (seat_of actor) (ask_view ask.now)) in
@@ -338,7 +338,7 @@ fn perform_ask(
         × ServesWithAttempts refs.new attempts.new s r)
         (λ answer. Answers g s.tenant actor (sender_of actor (hand_view hand.now)) q
         (ask_view ask.now) p memory.new refs.new attempts.new r (copies_view answer))) }
-    ensures stays { (g : Ground) (q : TenantState) (s : Store) (r : Refs)
+    ensures stays { (g : Ground) (q : TenantState) (s : Store) (r : TableRefs)
         → Remembers g s.tenant memory.old q → ServesWithAttempts refs.old attempts.old s r
         → OnErr result (Remembers g s.tenant memory.new q
         × ServesWithAttempts refs.new attempts.new s r) }

@@ -6,7 +6,7 @@ use Rattle.std.specs.Ordering.{nat_cmp}
 use Rattle.std.specs.BTreeSet.{insert_key}
 use Rattle.std.proofs.lemmas.Bool.{eqb-true, false_from_ne_true}
 use Rattle.std.proofs.lemmas.List.{map-append}
-use Rattle.bencode_wire.specs.Tree.{Tree, Pairs, integer, string, list, dictionary}
+use Rattle.bencode_wire.specs.Tree.{Tree, TreePairs, integer, string, list, dictionary}
 use Rattle.repl_sessions.specs.Ids.{id_text}
 use Rattle.repl_sessions.specs.Sessions.{SessionsData, cloned_state, opened_with, with_clone_of}
 use Rattle.repl_sessions.specs.Sessions.{without_session}
@@ -185,7 +185,7 @@ comes-with_queued_request session w x y served same queued stay told = λ g t q 
     subst (λ (q' : TenantState). Drafts g t q' waiting y) (sym (requested-found a w q (part_under (seat_of a) q.actors))) after
 
 -- a message
-pub comes-asked : (fields : Pairs) (r : Result AskedData ReplyData) (x y : Scene)
+pub comes-asked : (fields : TreePairs) (r : Result AskedData ReplyData) (x y : Scene)
     → r ≡ operations.operation_or_reply (number_named (remaining_named x.leaving x.sessions)) fields
     → FollowsRules (λ g t. with_asked g t r) x y → FollowsRules (λ g t. with_message g t (dictionary fields)) x y
 unfolding with_message

@@ -12,7 +12,7 @@ use Rattle.server_rules.specs.Request.{ProgramText, code, file, WorkInHand, each
 use Rattle.server_rules.specs.Request.{each_form_elsewhere, last_form}
 use Rattle.server_rules.specs.Starting.{hand_of, namespace_there}
 use Rattle.tenant_parts.specs.View.{hand_view}
-use Rattle.tenant_moves.specs.declared.request.Opened.{Opened}
+use Rattle.tenant_moves.specs.declared.request.OpenedRequest.{OpenedRequest}
 
 -- bytes as text
 abbrev pub text_in : List ℕ → Option (List ℕ)
@@ -41,6 +41,6 @@ opened_hand r spaces origin state (file text) =
     Some (hand_of origin (last_form nil) state.namespace (r.program text))
 
 -- what the code made of the request
-abbrev pub opened_view : Opened → Option WorkInHand
-opened_view (Opened.WorkInHand h) = Some (hand_view h)
-opened_view Opened.NamespaceNotFound = None
+abbrev pub opened_view : OpenedRequest → Option WorkInHand
+opened_view (OpenedRequest.WorkInHand h) = Some (hand_view h)
+opened_view OpenedRequest.NamespaceNotFound = None

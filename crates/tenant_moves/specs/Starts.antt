@@ -14,7 +14,7 @@ use Rattle.server_rules.specs.Request as rules
 use Rattle.server_rules.specs.Plan.{StepAnswer, form_begun, request_answered}
 use Rattle.server_rules.specs.Starting.{Started, form_job}
 use Rattle.tenant_parts.specs.View.{hand_view}
-use Rattle.tenant_moves.specs.declared.starting.Begun.{Begun}
+use Rattle.tenant_moves.specs.declared.starting.BegunForm.{BegunForm}
 use Rattle.tenant_moves.specs.declared.starting.NextForm.{NextForm}
 use Rattle.tenant_moves.specs.declared.starting.BegunRequest.{BegunRequest}
 use Rattle.tenant_moves.specs.Told.{TellsMove}
@@ -30,7 +30,7 @@ with_run h job = record h {
   forms = behind_first h.forms;
 }
 
-abbrev pub hand_begun : rules.WorkInHand → Option Begun → Option rules.WorkInHand
+abbrev pub hand_begun : rules.WorkInHand → Option BegunForm → Option rules.WorkInHand
 hand_begun h None = None
 hand_begun h (Some b) = Some (with_run h (job_view b.job))
 
@@ -39,7 +39,7 @@ abbrev pub answer_given : Option Job → StepAnswer
 answer_given None = request_answered
 answer_given (Some job) = form_begun (job_view job)
 
-abbrev pub given_job : Option Begun → Option Job
+abbrev pub given_job : Option BegunForm → Option Job
 given_job = option_map (λ b. b.given)
 
 -- the first of its forms, which is this, begins

@@ -17,5 +17,5 @@ mod telling;
 pub use effects::RequestEffects;
 pub use ending::{After, form_end, go_on};
 pub use hearing::hear;
-pub use request::{Opened, open_request};
-pub use starting::{Begun, BegunRequest, NextForm, begin, begin_request, next_form};
+pub use request::{OpenedRequest, open_request};
+pub use starting::{BegunForm, BegunRequest, NextForm, begin, begin_request, next_form};

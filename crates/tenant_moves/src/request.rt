@@ -28,7 +28,7 @@ use tenant_parts::{Aside, Manner, ProgramText, Waiting, WorkInHand};
 
 /// A request whose text was read.
 #[derive(Drop)]
-pub enum Opened {
+pub enum OpenedRequest {
     WorkInHand(WorkInHand),
     /// It names a namespace that is not there.
     NamespaceNotFound,
@@ -42,7 +42,7 @@ pub fn open_request(
     waiting: &Waiting,
     state: &SessionState,
     aside: &mut Aside,
-) -> Result<Opened, AllocError>
+) -> Result<OpenedRequest, AllocError>
     ensures { (r : Readings) → AreRight r → IfOk result (λ made. opened_view made
         ≡ opened_hand r (namespaces_of spaces.now) (waiting_view waiting.now).origin
         (state_view state.now) (waiting_view waiting.now).text) }
@@ -73,7 +73,7 @@ fn open_code(
     ns: &Option<Ben>,
     state: &SessionState,
     aside: &mut Aside,
-) -> Result<Opened, AllocError>
+) -> Result<OpenedRequest, AllocError>
     ensures { (r : Readings) → AreRight r → IfOk result (λ made. opened_view made
         ≡ opened_code r (namespaces_of spaces.now) (origin_view (arc_value origin.now))
         (string_bytes text.now) (state_view state.now) (field_view ns.now)) }
@@ -96,7 +96,7 @@ fn open_elsewhere(
     text: &String,
     namespace: Option<ArcStr>,
     aside: &mut Aside,
-) -> Result<Opened, AllocError>
+) -> Result<OpenedRequest, AllocError>
     ensures { (r : Readings) → AreRight r → IfOk result (λ made. opened_view made
         ≡ opened_elsewhere r (origin_view (arc_value origin.now)) (string_bytes text.now)
         (option_map (λ name. arc_str_bytes name) namespace)) }
@@ -106,7 +106,7 @@ fn open_elsewhere(
             let manner = Manner::EachFormElsewhere;
             open_in(alloc, origin, manner, &namespace, text, aside)
         }
-        None => Ok(Opened::NamespaceNotFound),
+        None => Ok(OpenedRequest::NamespaceNotFound),
     }
 }
 
@@ -117,7 +117,7 @@ fn open_in(
     namespace: &ArcStr,
     text: &String,
     aside: &mut Aside,
-) -> Result<Opened, AllocError>
+) -> Result<OpenedRequest, AllocError>
     ensures { (r : Readings) → AreRight r → IfOk result (λ made. opened_view made
         ≡ Some (hand_of (origin_view (arc_value origin.now)) (manner_view manner) (arc_str_bytes namespace.now)
         (r.program (string_bytes text.now)))) }
@@ -125,7 +125,7 @@ fn open_in(
     readings_are_unique();
     let ProgramForms { forms, fault } = aside.forms_of(alloc, text.as_str())?;
     let fault = text_fault(alloc, fault)?;
-    Ok(Opened::WorkInHand(WorkInHand {
+    Ok(OpenedRequest::WorkInHand(WorkInHand {
         origin: Arc::try_clone(origin)?,
         manner,
         namespace: copy_text(namespace)?,

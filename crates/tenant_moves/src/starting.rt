@@ -14,7 +14,7 @@ ghost use Rattle.tenant_moves.specs.Starts.{first_item, form_begun_with, request
 ghost use Rattle.tenant_moves.specs.Starts.{not_found, StartsForm, BeginsRequest};
 
 use crate::effects::RequestEffects;
-use crate::request::{Opened, open_request};
+use crate::request::{OpenedRequest, open_request};
 use name_spaces::Spaces;
 use repl_asks::{Job, Work};
 use repl_replies::{Body, Origin};
@@ -25,7 +25,7 @@ use tenant_parts::{Aside, Run, Waiting, WorkInHand};
 
 /// A form that begins: its job, and the same once more to be given out.
 #[derive(Drop)]
-pub struct Begun {
+pub struct BegunForm {
     pub job: Job,
     pub given: Job,
 }
@@ -34,7 +34,7 @@ pub struct Begun {
 #[derive(Drop)]
 pub struct NextForm {
     pub effects: RequestEffects,
-    pub begun: Option<Begun>,
+    pub begun: Option<BegunForm>,
 }
 
 /// What a request comes to that is taken up: what of it is in hand, and the job of its first form,
@@ -84,7 +84,7 @@ fn run_form(
     let effects = RequestEffects::new(alloc, state);
     let job = job_of(retries, hand, form)?;
     let given = job_of(retries, hand, form)?;
-    let begun = Some(Begun { job, given });
+    let begun = Some(BegunForm { job, given });
     Ok(NextForm { effects, begun })
 }
 
@@ -144,8 +144,8 @@ pub fn begin_request(
         (state_view state) (waiting_view waiting.now).text)) }
 {
     match open_request(alloc, spaces, waiting, &state, aside)? {
-        Opened::WorkInHand(hand) => begin_hand(alloc, retries, hand, state),
-        Opened::NamespaceNotFound => refuse(alloc, &*waiting.origin, state),
+        OpenedRequest::WorkInHand(hand) => begin_hand(alloc, retries, hand, state),
+        OpenedRequest::NamespaceNotFound => refuse(alloc, &*waiting.origin, state),
     }
 }
 
@@ -160,7 +160,7 @@ fn begin_hand(
 {
     let NextForm { effects, begun } = next_form(alloc, retries, &hand, state)?;
     Ok(match begun {
-        Some(Begun { job, given }) => BegunRequest {
+        Some(BegunForm { job, given }) => BegunRequest {
             effects,
             hand: Some(begin(alloc, hand, job)),
             given: Some(given),

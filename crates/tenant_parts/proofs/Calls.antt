@@ -16,12 +16,12 @@ use Rattle.ref_table.specs.Store.{left_attempt}
 use Rattle.ref_table.specs.Commit.{guarded_refs, touched_refs, all_there, intent_fits, any_newer}
 use Rattle.ref_table.specs.Commit.{all_folded, with_changes, with_raised_counter, with_all}
 use Rattle.ref_table.specs.Commit.{concluded_commit, checked_commit, commit_by}
-use Rattle.ref_table.specs.Calls.{Call, nothing, makes, begins, leaves_attempt, reads, counts}
+use Rattle.ref_table.specs.Calls.{StoreCall, nothing, makes, begins, leaves_attempt, reads, counts}
 use Rattle.ref_table.specs.Calls.{inside, outside}
 use Rattle.ref_table.specs.Calls.{tells_least, tells_most, sets_least, sets_most, commits}
 use Rattle.server_rules.specs.Asking.{may_send_call}
 use Rattle.ref_table.specs.Performed.{as_was}
-use Rattle.ref_table.specs.Calls.{gives_up, performed_begin, read_at, read_by, bound_set}
+use Rattle.ref_table.specs.Calls.{gives_up, performed_begin, read_at, read_by, performed_bound_set}
 use Rattle.ref_table.specs.Calls.{given_up, performed}
 
 -- the same tenant with the same attempts
@@ -74,7 +74,7 @@ read-tenant seat name s (Some point) (Some r) = by (readable point r) where
   by None = (with_changed_ref-same name with_failed_read s).tenant
 
 bound-tenant : (name : RefNameData) (owner : OwnerData) (f : Ref → Ref) (s : Store) (o : Option Ref)
-    → (bound_set name owner f s o).store.tenant ≡ s.tenant
+    → (performed_bound_set name owner f s o).store.tenant ≡ s.tenant
 bound-tenant name owner f s None = refl
 bound-tenant name shared f s (Some r) = refl
 bound-tenant name (tenant t) f s (Some r) = (with_changed_ref-same name f s).tenant
@@ -103,7 +103,7 @@ given-tenant : (seat : ℕ) (s : Store) (o : Option AnswerData)
 given-tenant seat s None = refl
 given-tenant seat s (Some answer) = refl
 
-pub performed-tenant : (s : Store) (call : Call) → (performed s call).store.tenant ≡ s.tenant
+pub performed-tenant : (s : Store) (call : StoreCall) → (performed s call).store.tenant ≡ s.tenant
 performed-tenant s nothing = refl
 performed-tenant s (makes d least most) = refl
 performed-tenant s (begins seat) = performed_begin-tenant seat s (numbered.part_under seat s.mine.points)
@@ -141,7 +141,7 @@ read-untold seat name s (Some point) (Some r) e = by (readable point r) e where
   by None e = absurd (none-some e)
 
 bound-untold : (name : RefNameData) (owner : OwnerData) (f : Ref → Ref) (s : Store) (o : Option Ref)
-    → None ≡ (bound_set name owner f s o).told → (bound_set name owner f s o).store ≡ s
+    → None ≡ (performed_bound_set name owner f s o).told → (performed_bound_set name owner f s o).store ≡ s
 bound-untold name owner f s None e = refl
 bound-untold name shared f s (Some r) e = refl
 bound-untold name (tenant t) f s (Some r) e = absurd (none-some e)
@@ -172,7 +172,7 @@ given-untold seat s None e = refl
 given-untold seat s (Some answer) e = absurd (none-some e)
 
 -- where nothing is told, all is as it was
-pub untold-stays : (s : Store) (call : Call) → None ≡ (performed s call).told
+pub untold-stays : (s : Store) (call : StoreCall) → None ≡ (performed s call).told
     → (performed s call).store ≡ s
 untold-stays s nothing e = absurd (none-some e)
 untold-stays s (makes d least most) e = absurd (none-some e)
@@ -279,7 +279,7 @@ commit-faulted s seat intent f e = by (numbered.part_under seat s.mine.points) e
 -- Bounds that are set
 
 pub bound-points : (name : RefNameData) (owner : OwnerData) (f : Ref → Ref) (s : Store)
-    (o : Option Ref) → (bound_set name owner f s o).store.mine.points ≡ s.mine.points
+    (o : Option Ref) → (performed_bound_set name owner f s o).store.mine.points ≡ s.mine.points
 bound-points name owner f s None = refl
 bound-points name shared f s (Some r) = refl
 bound-points name (tenant t) f s (Some r) = (with_changed_ref-same name f s).points
@@ -288,7 +288,7 @@ bound-points name (tenant t) f s (Some r) = (with_changed_ref-same name f s).poi
 pub send-told : (seat : ℕ) (s : Store)
     → as_was s (performed s (may_send_call seat)).told ≡ performed s (may_send_call seat)
 send-told seat s = by (seat == 0) where
-  call_by : Bool → Call
+  call_by : Bool → StoreCall
   call_by b = if b then nothing else inside seat
 
   by : (b : Bool) → as_was s (performed s (call_by b)).told ≡ performed s (call_by b)

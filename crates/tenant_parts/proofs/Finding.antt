@@ -17,7 +17,7 @@ use Rattle.server_rules.specs.Request.{Waiting, WorkInHand}
 use Rattle.server_rules.specs.Tenant.{ActorData, actor_at, seat_of}
 use Rattle.server_rules.specs.declared.actor.Actor.{Actor}
 use Rattle.tenant_parts.specs.Busy.{is_busy, passes}
-use Rattle.tenant_parts.specs.Lent.{AreAbove, Ascend}
+use Rattle.tenant_parts.specs.Lent.{AreAbove, ActorsAscend}
 use Rattle.tenant_parts.specs.Listed.{are_listed}
 use Rattle.tenant_parts.proofs.EntryLaws.{found_first}
 use Rattle.tenant_parts.proofs.Seats as code
@@ -63,7 +63,7 @@ above-from : (k : Actor) (es : code.Entries)
 above-from k [] h = tt
 above-from k (e ∷ es) h = (less-from k e.0 h.0, above-from k es h.1)
 
-pub ascend-from : (es : code.Entries) → IsStrictlySortedBy by_name (keys_of es) → Ascend (seen es)
+pub ascend-from : (es : code.Entries) → IsStrictlySortedBy by_name (keys_of es) → ActorsAscend (seen es)
 ascend-from [] h = tt
 ascend-from (e ∷ es) h = (
   above-from e.0 es (sorted_head by_name e.0 (keys_of es) h),
@@ -178,14 +178,14 @@ not-true false never = refl
 
 -- the names on the list that pass, if all that pass are on it
 pub passed-listed : (test : ActorData → Bool) (ks : List Actor) (es : Entries) → NamesAscend ks
-    → Ascend es → Covers test ks es → filter (passing test es) ks ≡ passed test es
+    → ActorsAscend es → Covers test ks es → filter (passing test es) ks ≡ passed test es
 passed-listed test [] es up rise covers = sym (none-passed test es covers)
 passed-listed test (k ∷ ks) es up rise covers =
     with-first (λ fs r c. passed-listed test ks fs up.1 r c) es rise covers
   where
-    by-order : ((fs : Entries) → Ascend fs → Covers test ks fs
+    by-order : ((fs : Entries) → ActorsAscend fs → Covers test ks fs
         → filter (passing test fs) ks ≡ passed test fs)
-        → (e : Entry ActorData) (fs : Entries) → Ascend (e ∷ fs) → Covers test (k ∷ ks) (e ∷ fs)
+        → (e : Entry ActorData) (fs : Entries) → ActorsAscend (e ∷ fs) → Covers test (k ∷ ks) (e ∷ fs)
         → filter (passing test fs) (k ∷ ks) ≡ passed test fs
         → (o : Ordering) → nat_cmp (seat_of k) e.number ≡ o
         → filter (passing test (e ∷ fs)) (k ∷ ks) ≡ passed test (e ∷ fs)
@@ -215,9 +215,9 @@ passed-listed test (k ∷ ks) es up rise covers =
         ∙ sym (ap (λ (b : Bool). map (λ e. actor_at e.number)
         (kept b e (filter (λ e. test e.part) fs))) idle)
 
-    with-first : ((fs : Entries) → Ascend fs → Covers test ks fs
+    with-first : ((fs : Entries) → ActorsAscend fs → Covers test ks fs
         → filter (passing test fs) ks ≡ passed test fs)
-        → (fs : Entries) → Ascend fs → Covers test (k ∷ ks) fs
+        → (fs : Entries) → ActorsAscend fs → Covers test (k ∷ ks) fs
         → filter (passing test fs) (k ∷ ks) ≡ passed test fs
     with-first behind [] r c = none-found test ks
     with-first behind (e ∷ fs) r c =
@@ -243,7 +243,7 @@ first-map f [] = refl
 first-map f (x ∷ xs) = refl
 
 pub first-listed : (test : ActorData → Bool) (ks : List Actor) (es : Entries) → NamesAscend ks
-    → Ascend es → Covers test ks es
+    → ActorsAscend es → Covers test ks es
     → find (passing test es) ks ≡ option_map (λ e. actor_at e.number) (find (λ e. test e.part) es)
 first-listed test ks es up rise covers =
     find-first (passing test es) ks

@@ -12,7 +12,7 @@ use Rattle.server_rules.specs.Request.{Waiting, WorkInHand}
 use Rattle.server_rules.specs.Tenant.{ActorData, actor_at, seat_of}
 use Rattle.server_rules.specs.declared.actor.Actor.{Actor}
 use Rattle.tenant_parts.specs.Busy.{is_busy, passes}
-use Rattle.tenant_parts.specs.Lent.{AreAbove, Ascend, IsBusyIfThere, MayBeLent}
+use Rattle.tenant_parts.specs.Lent.{AreAbove, ActorsAscend, IsBusyIfThere, MayBeLent}
 use Rattle.tenant_parts.specs.Listed.{lists, lists_agents, is_listed, are_listed, AgreeApart}
 use Rattle.tenant_parts.specs.Queues.{without_newest}
 use Rattle.tenant_parts.proofs.EntryLaws.{found_first, replaced_first, without_first}
@@ -197,7 +197,7 @@ listed-above s t n (e ∷ es) agree above h =
     apart below same = let never : n < n = subst (λ k. n < k) (sym same) below in omega (arith, never)
 
 -- the name of an actor that has nothing to do goes
-pub listed-rest : (s t : Names) (n : ℕ) (es : Entries) → AgreeApart n s t → Ascend es
+pub listed-rest : (s t : Names) (n : ℕ) (es : Entries) → AgreeApart n s t → ActorsAscend es
     → passes is_busy (part_under n es) ≡ false → are_listed s es ≡ true → are_listed t es ≡ true
 listed-rest s t n [] agree up idle h = refl
 listed-rest s t n (e ∷ es) agree up idle h =

@@ -8,10 +8,10 @@ use Rattle.ref_table.specs.Store.{Store, ref_named, changed_of}
 use Rattle.ref_table.specs.Performed.{as_was}
 use Rattle.value_data.specs.Datum.{OwnerData, shared, tenant}
 use Rattle.ref_history.specs.Versioned.{with_least, with_most}
-use Rattle.ref_table.specs.Calls.{performed, number_told, bound_set, sets_least, sets_most}
+use Rattle.ref_table.specs.Calls.{performed, number_told, performed_bound_set, sets_least, sets_most}
 use Rattle.ref_history.specs.Effects.{bounds_of}
 use Rattle.ref_history.specs.declared.ref_id.Bounds.{Bounds}
-use Rattle.ref_table.specs.Refs.{Refs, store_of}
+use Rattle.ref_table.specs.Refs.{TableRefs, store_of}
 use Rattle.tenant_parts.specs.Bounds.{least_call, most_call}
 use Rattle.tenant_parts.specs.Serving.{RingRefTable, ServesWithAttempts, PerformsCall}
 use Rattle.tenant_parts.specs.declared.attempts.Attempts.{Attempts}
@@ -21,7 +21,7 @@ use Rattle.tenant_parts.proofs.Soundness.{reaches-sound, ref_named-sound}
 
 -- one number of a ref that is there
 module _ (part : Ref → ℕ) (of : Bounds → ℕ) (is : (r : Ref) → of (bounds_of r) ≡ part r) where
-  number-comes : (table : RingRefTable) (attempts : Attempts) (s : Store) (r : Refs) (name : RefNameData)
+  number-comes : (table : RingRefTable) (attempts : Attempts) (s : Store) (r : TableRefs) (name : RefNameData)
       (b : Bounds) (given : AnswerData) → ServesWithAttempts table attempts s r
       → ((ref : Ref) → ref_named name s ≡ Some ref → part ref < 2 ^ 63)
       → Some b ≡ option_map bounds_of (ref_named name s)
@@ -44,7 +44,7 @@ module _ (part : Ref → ℕ) (of : Bounds → ℕ) (is : (r : Ref) → of (boun
           (ap (λ o. as_was s (option_map (λ ref. number_told (part ref)) o)) there
           ∙ ap (λ x. as_was s (Some x)) (sym answer))
 
-pub least-comes : (table : RingRefTable) (attempts : Attempts) (s : Store) (r : Refs) (name : RefNameData)
+pub least-comes : (table : RingRefTable) (attempts : Attempts) (s : Store) (r : TableRefs) (name : RefNameData)
     (set : Option ℕ) (b : Bounds) (given : AnswerData) → ServesWithAttempts table attempts s r → set ≡ None
     → Some b ≡ option_map bounds_of (ref_named name (store_of attempts.tenant s.mine.points r))
     → (b.least < 2 ^ 63 → given ≡ number_told b.least)
@@ -56,7 +56,7 @@ least-comes table attempts s r name set b given holds none some told =
     holds (λ ref there. (ref_named-sound s name ref sound there).least)
     (some ∙ ap (λ x. option_map bounds_of (ref_named name x)) (seen-so table attempts s r holds)) told)
 
-pub most-comes : (table : RingRefTable) (attempts : Attempts) (s : Store) (r : Refs) (name : RefNameData)
+pub most-comes : (table : RingRefTable) (attempts : Attempts) (s : Store) (r : TableRefs) (name : RefNameData)
     (set : Option ℕ) (b : Bounds) (given : AnswerData) → ServesWithAttempts table attempts s r → set ≡ None
     → Some b ≡ option_map bounds_of (ref_named name (store_of attempts.tenant s.mine.points r))
     → (b.most < 2 ^ 63 → given ≡ number_told b.most)
@@ -76,7 +76,7 @@ changed-still shared n f s = refl
 changed-still (tenant t) n f s = refl
 
 bound-still : (name : RefNameData) (o : OwnerData) (f : Ref → Ref) (s : Store) (r : Option Ref)
-    → (bound_set name o f s r).store.mine.points ≡ s.mine.points
+    → (performed_bound_set name o f s r).store.mine.points ≡ s.mine.points
 bound-still name o f s None = refl
 bound-still name shared f s (Some r) = refl
 bound-still name (tenant t) f s (Some r) = changed-still name.owner name.number f s

@@ -9,9 +9,9 @@ use Rattle.ref_table.specs.Numbered.{Entry, without}
 use Rattle.ref_history.specs.Versioned.{Ref}
 use Rattle.ref_table.specs.Store.{Store, left_attempt}
 use Rattle.ref_table.specs.Performed.{Performed, as_was}
-use Rattle.ref_table.specs.Calls.{Call, performed}
+use Rattle.ref_table.specs.Calls.{StoreCall, performed}
 use Rattle.ref_history.specs.RingHistories.{RingStands}
-use Rattle.ref_table.specs.Refs.{Refs, store_of, refs_after}
+use Rattle.ref_table.specs.Refs.{TableRefs, store_of, refs_after}
 use Rattle.ref_table.specs.Standing as refs
 use Rattle.ref_table.specs.Told.{Performs}
 use Rattle.ref_table.proofs.Seen.{owned-seen}
@@ -22,7 +22,7 @@ use Rattle.tenant_parts.proofs.Calls.{performed-tenant, untold-stays}
 use Rattle.tenant_parts.proofs.Soundness.{MayBe, performed-sound, reaches-sound, refs_after-sound}
 
 -- what a tenant sees of the refs, once it sees this
-pub sees-refs_after : (s : Store) (r : Refs) → s ≡ store_of s.tenant s.mine.points (refs_after s r)
+pub sees-refs_after : (s : Store) (r : TableRefs) → s ≡ store_of s.tenant s.mine.points (refs_after s r)
 sees-refs_after s r =
     let seen : Bool → Store = λ b. record {
       around = s.around;
@@ -35,17 +35,17 @@ sees-refs_after s r =
     ap seen (sym (eq-eqb s.tenant s.tenant refl))
 
 -- it adds nothing
-refs_after-store : (caller : ℕ) (points : List (Entry ℕ)) (r : Refs) → refs_after (store_of caller points r) r ≡ r
+refs_after-store : (caller : ℕ) (points : List (Entry ℕ)) (r : TableRefs) → refs_after (store_of caller points r) r ≡ r
 refs_after-store caller points r =
-    let with_owned : (OwnerData → List Ref) → Refs = λ owned.
+    let with_owned : (OwnerData → List Ref) → TableRefs = λ owned.
     record { counter = r.counter; owned = owned } in
     ap with_owned (fun_ext (owned-seen caller r.owned))
 
-pub refs_after-seen : (s : Store) (r : Refs) → s ≡ store_of s.tenant s.mine.points r → refs_after s r ≡ r
+pub refs_after-seen : (s : Store) (r : TableRefs) → s ≡ store_of s.tenant s.mine.points r → refs_after s r ≡ r
 refs_after-seen s r is =
     ap (λ x. refs_after x r) is ∙ refs_after-store s.tenant s.mine.points r
 
-pub seen-so : (table : RingRefTable) (attempts : Attempts) (s : Store) (r : Refs)
+pub seen-so : (table : RingRefTable) (attempts : Attempts) (s : Store) (r : TableRefs)
     → ServesWithAttempts table attempts s r → store_of attempts.tenant s.mine.points r ≡ s
 seen-so table attempts s r holds =
     ap (λ t. store_of t s.mine.points r) holds.reaches.tenant ∙ sym holds.serves.reached
@@ -53,8 +53,8 @@ seen-so table attempts s r holds =
 -- What a call comes to
 
 -- the table did what the rules say for what it sees of this tenant
-pub performs-so : (new : RingRefTable) (old : RingRefTable) (attempts : Attempts) (s : Store) (r : Refs)
-    (answer : Option AnswerData) (call : Call) → ServesWithAttempts old attempts s r
+pub performs-so : (new : RingRefTable) (old : RingRefTable) (attempts : Attempts) (s : Store) (r : TableRefs)
+    (answer : Option AnswerData) (call : StoreCall) → ServesWithAttempts old attempts s r
     → Performs RingStands new r answer
     (performed (store_of attempts.tenant s.mine.points r) call)
     → Performs RingStands new r answer (performed s call)
@@ -62,8 +62,8 @@ performs-so new old attempts s r answer call holds told =
     subst (λ x. Performs RingStands new r answer (performed x call))
     (seen-so old attempts s r holds) told
 
-pub comes-with : (new old : RingRefTable) (attempts later : Attempts) (s : Store) (r : Refs)
-    (answer : Option AnswerData) (call : Call) → ServesWithAttempts old attempts s r
+pub comes-with : (new old : RingRefTable) (attempts later : Attempts) (s : Store) (r : TableRefs)
+    (answer : Option AnswerData) (call : StoreCall) → ServesWithAttempts old attempts s r
     → Performs RingStands new r answer
     (performed (store_of attempts.tenant s.mine.points r) call)
     → later.tenant ≡ attempts.tenant → ArePoints later (performed s call).store.mine.points
@@ -77,8 +77,8 @@ comes-with new old attempts later s r answer call holds told same points = recor
 }
 
 -- the attempts stay
-pub comes-still : (new old : RingRefTable) (attempts : Attempts) (s : Store) (r : Refs)
-    (answer : Option AnswerData) (call : Call) → ServesWithAttempts old attempts s r
+pub comes-still : (new old : RingRefTable) (attempts : Attempts) (s : Store) (r : TableRefs)
+    (answer : Option AnswerData) (call : StoreCall) → ServesWithAttempts old attempts s r
     → Performs RingStands new r answer
     (performed (store_of attempts.tenant s.mine.points r) call)
     → (performed s call).store.mine.points ≡ s.mine.points
@@ -88,8 +88,8 @@ comes-still new old attempts s r answer call holds told same =
     (subst (ArePoints attempts) (sym same) holds.reaches.points)
 
 -- the attempt is over
-pub comes-left : (new old : RingRefTable) (attempts later : Attempts) (seat : ℕ) (s : Store) (r : Refs)
-    (answer : Option AnswerData) (call : Call) → ServesWithAttempts old attempts s r
+pub comes-left : (new old : RingRefTable) (attempts later : Attempts) (seat : ℕ) (s : Store) (r : TableRefs)
+    (answer : Option AnswerData) (call : StoreCall) → ServesWithAttempts old attempts s r
     → Performs RingStands new r answer
     (performed (store_of attempts.tenant s.mine.points r) call)
     → (performed s call).store.mine.points ≡ without seat s.mine.points
@@ -101,7 +101,7 @@ comes-left new old attempts later seat s r answer call holds told is same left =
     (subst (ArePoints later) (sym is) (left s.mine.points holds.reaches.points))
 
 -- nothing is told, and all stays
-pub comes-untold : (new old : RingRefTable) (attempts : Attempts) (s : Store) (r : Refs) (call : Call)
+pub comes-untold : (new old : RingRefTable) (attempts : Attempts) (s : Store) (r : TableRefs) (call : StoreCall)
     → ServesWithAttempts old attempts s r
     → Performs RingStands new r None
     (performed (store_of attempts.tenant s.mine.points r) call)
@@ -112,7 +112,7 @@ comes-untold new old attempts s r call holds told =
     (ap (λ x. x.mine.points) (untold-stays s call none))
 
 -- all stays, and this is told
-pub comes-told : (table : RingRefTable) (attempts : Attempts) (s : Store) (r : Refs)
+pub comes-told : (table : RingRefTable) (attempts : Attempts) (s : Store) (r : TableRefs)
     (answer : Option AnswerData) (p : Performed Store) → ServesWithAttempts table attempts s r
     → p ≡ as_was s answer → PerformsCall table attempts r answer p
 comes-told table attempts s r answer p holds is =
@@ -126,7 +126,7 @@ comes-told table attempts s r answer p holds is =
     })
 
 -- nothing became of it
-pub holds-still : (new old : RingRefTable) (attempts later : Attempts) (s : Store) (r : Refs)
+pub holds-still : (new old : RingRefTable) (attempts later : Attempts) (s : Store) (r : TableRefs)
     (answer : Option AnswerData) (p : Performed Store) → ServesWithAttempts old attempts s r
     → Performs RingStands new r answer p → p.store ≡ s → later ≡ attempts
     → ServesWithAttempts new later s r
@@ -141,7 +141,7 @@ holds-still new old attempts later s r answer p holds told same is = record {
 }
 
 -- an attempt that would be over goes on
-pub holds-unended : (new old : RingRefTable) (attempts : Attempts) (seat : ℕ) (s : Store) (r : Refs)
+pub holds-unended : (new old : RingRefTable) (attempts : Attempts) (seat : ℕ) (s : Store) (r : TableRefs)
     (answer : Option AnswerData) (p : Performed Store) → ServesWithAttempts old attempts s r
     → Performs RingStands new r answer p → p.store ≡ left_attempt seat s
     → ServesWithAttempts new attempts s r
@@ -155,7 +155,7 @@ holds-unended new old attempts seat s r answer p holds told left = record {
   reaches = holds.reaches;
 }
 
-pub holds-new : (new old : RingRefTable) (attempts : Attempts) (s : Store) (r : Refs)
+pub holds-new : (new old : RingRefTable) (attempts : Attempts) (s : Store) (r : TableRefs)
     → ServesWithAttempts old attempts s r → refs.TableStands RingStands new r → ServesWithAttempts new attempts s r
 holds-new new old attempts s r holds stands = record {
   serves = record {
@@ -167,8 +167,8 @@ holds-new new old attempts s r holds stands = record {
 }
 
 -- what a call leaves
-pub holds-refs_after : (new old : RingRefTable) (attempts later : Attempts) (s : Store) (r : Refs)
-    (answer : Option AnswerData) (call : Call) → ServesWithAttempts old attempts s r → MayBe call
+pub holds-refs_after : (new old : RingRefTable) (attempts later : Attempts) (s : Store) (r : TableRefs)
+    (answer : Option AnswerData) (call : StoreCall) → ServesWithAttempts old attempts s r → MayBe call
     → PerformsCall new later r answer (performed s call)
     → ServesWithAttempts new later (performed s call).store (refs_after (performed s call).store r)
 holds-refs_after new old attempts later s r answer call holds may comes =
@@ -185,7 +185,7 @@ holds-refs_after new old attempts later s r answer call holds may comes =
     }
 
 -- an attempt is over
-pub holds-left : (table : RingRefTable) (attempts later : Attempts) (seat : ℕ) (s : Store) (r : Refs)
+pub holds-left : (table : RingRefTable) (attempts later : Attempts) (seat : ℕ) (s : Store) (r : TableRefs)
     → ServesWithAttempts table attempts s r → later.tenant ≡ attempts.tenant
     → ArePoints later (left_attempt seat s).mine.points
     → ServesWithAttempts table later (left_attempt seat s) (refs_after (left_attempt seat s) r)

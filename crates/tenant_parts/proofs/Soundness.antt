@@ -18,12 +18,12 @@ use Rattle.ref_table.specs.Store.{with_changed_ref}
 use Rattle.ref_table.specs.Commit.{guarded_refs, touched_refs, all_there, intent_fits, any_newer}
 use Rattle.ref_table.specs.Commit.{all_folded, with_changes, with_raised_counter, with_all}
 use Rattle.ref_table.specs.Commit.{concluded_commit, checked_commit, commit_by}
-use Rattle.ref_table.specs.Calls.{Call, nothing, makes, begins, leaves_attempt, reads, counts}
+use Rattle.ref_table.specs.Calls.{StoreCall, nothing, makes, begins, leaves_attempt, reads, counts}
 use Rattle.ref_table.specs.Calls.{inside, outside}
 use Rattle.ref_table.specs.Calls.{tells_least, tells_most, sets_least, sets_most, commits}
-use Rattle.ref_table.specs.Calls.{gives_up, performed_begin, read_at, read_by, bound_set}
+use Rattle.ref_table.specs.Calls.{gives_up, performed_begin, read_at, read_by, performed_bound_set}
 use Rattle.ref_table.specs.Calls.{given_up, performed}
-use Rattle.ref_table.specs.Refs.{Refs, store_of, refs_after}
+use Rattle.ref_table.specs.Refs.{TableRefs, store_of, refs_after}
 use Rattle.tenant_parts.specs.Sound.{IsSoundRef, AreSound, ReachesSound}
 
 abbrev All : List Ref → Type 0
@@ -135,7 +135,7 @@ read-sound seat name s (Some point) (Some r) sound = by (readable point r) where
   by None = let there = with_changed_ref-sound name with_failed_read s with_failed_read-keeps sound in (there.0, there.1)
 
 bound-sound : (name : RefNameData) (owner : OwnerData) (f : Ref → Ref) (s : Store) (o : Option Ref)
-    → Keeps f → ReachesSound s → ReachesSound (bound_set name owner f s o).store
+    → Keeps f → ReachesSound s → ReachesSound (performed_bound_set name owner f s o).store
 bound-sound name owner f s None keeps sound = sound
 bound-sound name shared f s (Some r) keeps sound = sound
 bound-sound name (tenant t) f s (Some r) keeps sound = with_changed_ref-sound name f s keeps sound
@@ -166,13 +166,13 @@ given-sound seat s None sound = sound
 given-sound seat s (Some answer) sound = sound
 
 -- the bounds that are given are numbers of the language
-abbrev pub MayBe : Call → Type 0
+abbrev pub MayBe : StoreCall → Type 0
 MayBe (makes d least most) = (least < 2 ^ 63) × (most < 2 ^ 63)
 MayBe (sets_least name n) = n < 2 ^ 63
 MayBe (sets_most name n) = n < 2 ^ 63
 MayBe _ = ⊤
 
-pub performed-sound : (s : Store) (call : Call) → MayBe call → ReachesSound s
+pub performed-sound : (s : Store) (call : StoreCall) → MayBe call → ReachesSound s
     → ReachesSound (performed s call).store
 performed-sound s nothing may sound = sound
 performed-sound s (makes d least most) may sound = (
@@ -200,12 +200,12 @@ performed-sound s (gives_up seat call) may sound = given-sound seat s (performed
 
 -- The refs of all
 
-pub reaches-sound : (caller : ℕ) (s : Store) (r : Refs) → s ≡ store_of caller s.mine.points r
+pub reaches-sound : (caller : ℕ) (s : Store) (r : TableRefs) → s ≡ store_of caller s.mine.points r
     → AreSound r → ReachesSound s
 reaches-sound caller s r is sound =
     subst ReachesSound (sym is) (sound shared, sound (tenant caller))
 
-pub refs_after-sound : (s : Store) (r : Refs) → ReachesSound s → AreSound r → AreSound (refs_after s r)
+pub refs_after-sound : (s : Store) (r : TableRefs) → ReachesSound s → AreSound r → AreSound (refs_after s r)
 refs_after-sound s r mine sound shared = mine.0
 refs_after-sound s r mine sound (tenant t) = by (t == s.tenant) where
   by : (b : Bool) → All (if b then s.mine.refs else r.owned (tenant t))

@@ -12,7 +12,7 @@ use Rattle.ref_table.specs.Store.{Store, ref_named, newest_value}
 use Rattle.ref_table.specs.Commit.{guarded_refs, touched_refs, all_there, intent_fits, any_newer}
 use Rattle.ref_table.specs.Commit.{all_folded, concluded_commit, checked_commit, commit_by}
 use Rattle.ref_table.specs.Calls.{performed, begins, reads, commits, performed_begin, read_at}
-use Rattle.ref_table.specs.Calls.{read_by, count_told, bound_set, number_told}
+use Rattle.ref_table.specs.Calls.{read_by, count_told, performed_bound_set, number_told}
 use Rattle.tenant_parts.specs.Bounds.{least_call, most_call, is_bounded}
 use Rattle.tenant_parts.specs.Sound.{ReachesSound}
 use Rattle.tenant_parts.proofs.Soundness.{ref_named-sound}
@@ -62,7 +62,7 @@ least-told s name None = by name.owner (ref_named name s) where
   by owner (Some r) = refl
 least-told s name (Some n) = by name.owner (ref_named name s) where
   by : (owner : OwnerData) (o : Option Ref)
-      → is_bounded true owner o ≡ is_some (bound_set name owner (with_least n) s o).told
+      → is_bounded true owner o ≡ is_some (performed_bound_set name owner (with_least n) s o).told
   by shared None = refl
   by shared (Some r) = refl
   by (tenant t) None = refl
@@ -78,7 +78,7 @@ most-told s name None = by name.owner (ref_named name s) where
   by owner (Some r) = refl
 most-told s name (Some n) = by name.owner (ref_named name s) where
   by : (owner : OwnerData) (o : Option Ref)
-      → is_bounded true owner o ≡ is_some (bound_set name owner (with_most n) s o).told
+      → is_bounded true owner o ≡ is_some (performed_bound_set name owner (with_most n) s o).told
   by shared None = refl
   by shared (Some r) = refl
   by (tenant t) None = refl

@@ -32,6 +32,6 @@ abbrev pub AreAbove : ℕ → List (Entry ActorData) → Type 0
 AreAbove seat [] = ⊤
 AreAbove seat (e ∷ es) = (seat < e.number) × AreAbove seat es
 
-abbrev pub Ascend : List (Entry ActorData) → Type 0
-Ascend [] = ⊤
-Ascend (e ∷ es) = AreAbove e.number es × Ascend es
+abbrev pub ActorsAscend : List (Entry ActorData) → Type 0
+ActorsAscend [] = ⊤
+ActorsAscend (e ∷ es) = AreAbove e.number es × ActorsAscend es

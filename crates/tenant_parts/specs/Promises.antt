@@ -2,7 +2,7 @@
 use Rattle.std.specs.Prelude.{◌≡◌, ◌≤◌, ◌+◌, true, Option, IsNone, Result, IfOk, OnErr}
 use Rattle.repl_asks.specs.Exchange.{AskData}
 use Rattle.ref_table.specs.Calls.{performed}
-use Rattle.ref_table.specs.Refs.{Refs}
+use Rattle.ref_table.specs.Refs.{TableRefs}
 use Rattle.ref_table.specs.Standing.{counter_of}
 use Rattle.ref_table.specs.Store.{Store}
 use Rattle.server_rules.specs.Asking.{call_of, is_allowed}
@@ -17,7 +17,7 @@ use Rattle.tenant_parts.specs.declared.copies.AnswerCopies.{AnswerCopies}
 abbrev pub TellsCall : {E : Type 0} → Actor → AskData → RingRefTable → Attempts → RingRefTable
     → Attempts → Result (Option AnswerCopies) E → Type 0
 TellsCall a ask table_old attempts_old table_new attempts_new result =
-    (q : TenantState) (s : Store) (r : Refs) → ServesWithAttempts table_old attempts_old s r
+    (q : TenantState) (s : Store) (r : TableRefs) → ServesWithAttempts table_old attempts_old s r
     → is_allowed ask q.cells ≡ true
     → IfOk result (λ it. PerformsCall table_new attempts_new r (told_answer it)
     (performed s (call_of (seat_of a) ask)))
@@ -26,7 +26,7 @@ TellsCall a ask table_old attempts_old table_new attempts_new result =
 abbrev pub ServesStill : {A E : Type 0} → RingRefTable → Attempts → RingRefTable → Attempts
     → Result A E → Type 0
 ServesStill table_old attempts_old table_new attempts_new result =
-    (s : Store) (r : Refs) → ServesWithAttempts table_old attempts_old s r
+    (s : Store) (r : TableRefs) → ServesWithAttempts table_old attempts_old s r
     → OnErr result (ServesWithAttempts table_new attempts_new s r)
 
 -- one commit is counted at the most, and none where the call fails

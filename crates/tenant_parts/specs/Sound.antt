@@ -5,7 +5,7 @@ use Rattle.std.specs.List.{AllByRecursion}
 use Rattle.value_data.specs.Datum.{OwnerData}
 use Rattle.ref_table.specs.Store.{Store}
 use Rattle.ref_history.specs.Versioned.{Ref, newest}
-use Rattle.ref_table.specs.Refs.{Refs}
+use Rattle.ref_table.specs.Refs.{TableRefs}
 
 pub record IsSoundRef (r : Ref) : Type 0 where
   pub kept : r.kept < 2 ^ 63
@@ -13,7 +13,7 @@ pub record IsSoundRef (r : Ref) : Type 0 where
   pub most : r.most < 2 ^ 63
   pub value : is_some (newest r.versions) ≡ true
 
-abbrev pub AreSound : Refs → Type 0
+abbrev pub AreSound : TableRefs → Type 0
 AreSound r = (owner : OwnerData) → AllByRecursion IsSoundRef (r.owned owner)
 
 -- those that a tenant reaches

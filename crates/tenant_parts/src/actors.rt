@@ -39,7 +39,7 @@ impl Drop for Actors {
 // Each takes about the logarithm of the number of actors, but those that say otherwise.
 impl Actors {
     ghost use Rattle.tenant_parts.specs.View.{actors_view, AreBelow};
-    ghost use Rattle.tenant_parts.specs.Lent.{LendsActor, MayBeLent, Ascend};
+    ghost use Rattle.tenant_parts.specs.Lent.{LendsActor, MayBeLent, ActorsAscend};
 
     /// The actors of agents and of the requests without a session, alone. It fails only for want of
     /// memory.
@@ -121,7 +121,7 @@ impl Actors {
     /// hand, or one waits. It looks at each of them, and fails only for want of memory.
     pub fn busy(&self, alloc: Global) -> Result<Vec<Actor>, AllocError>
         ensures names { IfOk result (λ names. names.items ≡ busy_of (actors_view self.now)) }
-        ensures order { Ascend (actors_view self.now) }
+        ensures order { ActorsAscend (actors_view self.now) }
     {
         self.ascend();
         let mut names = Vec::with_capacity(alloc, self.busy.len())?;
@@ -167,7 +167,7 @@ impl Actors {
 
     // The actors are in the order of their seats.
     fn ascend(&self)
-        ensures { Ascend (actors_view self.now) }
+        ensures { ActorsAscend (actors_view self.now) }
     {
         let _count = self.live.len();
     }

@@ -7,7 +7,7 @@ ghost use Rattle.ref_table.specs.Calls.{performed, makes, begins, reads, counts,
 ghost use Rattle.ref_table.specs.Calls.{outside};
 ghost use Rattle.ref_table.specs.Store.{Store};
 ghost use Rattle.server_rules.specs.Tenant.{seat_of};
-ghost use Rattle.ref_table.specs.Refs.{Refs};
+ghost use Rattle.ref_table.specs.Refs.{TableRefs};
 ghost use Rattle.ref_table.specs.Standing.{counter_of};
 ghost use Rattle.ref_table.specs.Told.{setting_told};
 ghost use Rattle.tenant_parts.specs.Attempts.{Reaches};
@@ -79,10 +79,10 @@ fn make(
     value: &Value,
     bounds: Bounds,
 ) -> Result<Option<AnswerCopies>, AllocError>
-    ensures called { (s : Store) (r : Refs) → ServesWithAttempts refs.old attempts.now s r
+    ensures called { (s : Store) (r : TableRefs) → ServesWithAttempts refs.old attempts.now s r
         → IfOk result (λ it. PerformsCall refs.new attempts.now r (told_answer it)
         (performed s (makes (view value.now) bounds.least bounds.most))) }
-    ensures stays { (s : Store) (r : Refs) → ServesWithAttempts refs.old attempts.now s r
+    ensures stays { (s : Store) (r : TableRefs) → ServesWithAttempts refs.old attempts.now s r
         → OnErr result (ServesWithAttempts refs.new attempts.now s r) }
     ensures counter { counter_of refs.new ≡ counter_of refs.old }
     ensures copies { IfOk result AreCopies }
@@ -98,10 +98,10 @@ fn begin(
     attempts: &mut Attempts,
     actor: Actor,
 ) -> Result<Option<AnswerCopies>, AllocError>
-    ensures called { (s : Store) (r : Refs) → ServesWithAttempts refs.now attempts.old s r
+    ensures called { (s : Store) (r : TableRefs) → ServesWithAttempts refs.now attempts.old s r
         → IfOk result (λ it. PerformsCall refs.now attempts.new r (told_answer it)
         (performed s (begins (seat_of actor)))) }
-    ensures stays { (s : Store) (r : Refs) → ServesWithAttempts refs.now attempts.old s r
+    ensures stays { (s : Store) (r : TableRefs) → ServesWithAttempts refs.now attempts.old s r
         → OnErr result (ServesWithAttempts refs.now attempts.new s r) }
     ensures copies { IfOk result AreCopies }
 {
@@ -144,10 +144,10 @@ fn read(
     actor: Actor,
     name: RefName,
 ) -> Result<Option<AnswerCopies>, AllocError>
-    ensures called { (s : Store) (r : Refs) → ServesWithAttempts refs.old attempts.old s r
+    ensures called { (s : Store) (r : TableRefs) → ServesWithAttempts refs.old attempts.old s r
         → IfOk result (λ it. PerformsCall refs.new attempts.new r (told_answer it)
         (performed s (reads (seat_of actor) (name_view name)))) }
-    ensures stays { (s : Store) (r : Refs) → ServesWithAttempts refs.old attempts.old s r
+    ensures stays { (s : Store) (r : TableRefs) → ServesWithAttempts refs.old attempts.old s r
         → OnErr result (ServesWithAttempts refs.new attempts.new s r) }
     ensures counter { counter_of refs.new ≡ counter_of refs.old }
     ensures copies { IfOk result AreCopies }
@@ -170,7 +170,7 @@ fn count(
     actor: Actor,
     name: RefName,
 ) -> Option<AnswerCopies>
-    ensures called { (s : Store) (r : Refs) → ServesWithAttempts refs.now attempts.now s r
+    ensures called { (s : Store) (r : TableRefs) → ServesWithAttempts refs.now attempts.now s r
         → PerformsCall refs.now attempts.now r (told_answer result)
         (performed s (counts (seat_of actor) (name_view name))) }
     ensures copies { AreCopies result }
@@ -189,7 +189,7 @@ fn tell_or_set_least(
     name: RefName,
     set: Option<u64>,
 ) -> Option<AnswerCopies>
-    ensures called { (s : Store) (r : Refs) → ServesWithAttempts refs.old attempts.now s r
+    ensures called { (s : Store) (r : TableRefs) → ServesWithAttempts refs.old attempts.now s r
         → PerformsCall refs.new attempts.now r (told_answer result)
         (performed s (least_call (name_view name) set)) }
     ensures counter { counter_of refs.new ≡ counter_of refs.old }
@@ -208,7 +208,7 @@ fn tell_or_set_most(
     name: RefName,
     set: Option<u64>,
 ) -> Option<AnswerCopies>
-    ensures called { (s : Store) (r : Refs) → ServesWithAttempts refs.old attempts.now s r
+    ensures called { (s : Store) (r : TableRefs) → ServesWithAttempts refs.old attempts.now s r
         → PerformsCall refs.new attempts.now r (told_answer result)
         (performed s (most_call (name_view name) set)) }
     ensures counter { counter_of refs.new ≡ counter_of refs.old }
@@ -240,10 +240,10 @@ fn commit(
     intent: &Intent,
 ) -> Result<Option<AnswerCopies>, AllocError>
     requires { counter_of refs.old < u128.MAX }
-    ensures called { (s : Store) (r : Refs) → ServesWithAttempts refs.old attempts.old s r
+    ensures called { (s : Store) (r : TableRefs) → ServesWithAttempts refs.old attempts.old s r
         → IfOk result (λ it. PerformsCall refs.new attempts.new r (told_answer it)
         (performed s (commits (seat_of actor) (intent_view intent.now)))) }
-    ensures stays { (s : Store) (r : Refs) → ServesWithAttempts refs.old attempts.old s r
+    ensures stays { (s : Store) (r : TableRefs) → ServesWithAttempts refs.old attempts.old s r
         → OnErr result (ServesWithAttempts refs.new attempts.new s r) }
     ensures counted { CountsIfTold refs.old refs.new result }
     ensures copies { IfOk result AreCopies }

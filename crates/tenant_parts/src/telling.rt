@@ -5,7 +5,7 @@ ghost use Rattle.server_rules.specs.Asking.{call_of, may_send_call};
 ghost use Rattle.ref_table.specs.Calls.{performed, counts, commits};
 ghost use Rattle.ref_table.specs.Store.{Store, ref_named};
 ghost use Rattle.server_rules.specs.Tenant.{seat_of};
-ghost use Rattle.ref_table.specs.Refs.{Refs};
+ghost use Rattle.ref_table.specs.Refs.{TableRefs};
 ghost use Rattle.tenant_parts.specs.Bounds.{is_bounded};
 ghost use Rattle.tenant_parts.specs.Attempts.{Reaches};
 ghost use Rattle.tenant_parts.specs.Serving.{ServesWithAttempts};
@@ -27,7 +27,7 @@ pub fn is_told(
     actor: Actor,
     ask: &Ask,
 ) -> bool
-    ensures { (s : Store) (r : Refs) → ServesWithAttempts refs.now attempts.now s r
+    ensures { (s : Store) (r : TableRefs) → ServesWithAttempts refs.now attempts.now s r
         → result ≡ is_some (performed s (call_of (seat_of actor) (ask_view ask.now))).told }
 {
     match ask {
@@ -57,7 +57,7 @@ fn may_send(attempts: &Attempts, actor: Actor) -> bool
 
 // Whether the tenant reaches a ref.
 fn is_there(refs: &RefTable<RingHistory>, attempts: &Attempts, name: RefName) -> bool
-    ensures { (s : Store) (r : Refs) → ServesWithAttempts refs.now attempts.now s r
+    ensures { (s : Store) (r : TableRefs) → ServesWithAttempts refs.now attempts.now s r
         → result ≡ is_some (ref_named (name_view name) s) }
 {
     refs.bounds(attempts.tenant, name).is_some()
@@ -69,7 +69,7 @@ fn is_counted(
     actor: Actor,
     name: RefName,
 ) -> bool
-    ensures { (s : Store) (r : Refs) → ServesWithAttempts refs.now attempts.now s r → result
+    ensures { (s : Store) (r : TableRefs) → ServesWithAttempts refs.now attempts.now s r → result
         ≡ is_some (performed s (counts (seat_of actor) (name_view name))).told }
 {
     if matches!(name.owner, Owner::Shared) && attempts.point(actor).is_some() {
@@ -84,7 +84,7 @@ fn is_bounded(
     name: RefName,
     is_set: bool,
 ) -> bool
-    ensures { (s : Store) (r : Refs) → ServesWithAttempts refs.now attempts.now s r → result
+    ensures { (s : Store) (r : TableRefs) → ServesWithAttempts refs.now attempts.now s r → result
         ≡ is_bounded is_set (name_view name).owner (ref_named (name_view name) s) }
 {
     if is_set && matches!(name.owner, Owner::Shared) {
@@ -100,7 +100,7 @@ fn is_committed(
     actor: Actor,
     intent: &Intent,
 ) -> bool
-    ensures { (s : Store) (r : Refs) → ServesWithAttempts refs.now attempts.now s r
+    ensures { (s : Store) (r : TableRefs) → ServesWithAttempts refs.now attempts.now s r
         → result ≡ is_some (performed s (commits (seat_of actor) (intent_view intent.now))).told }
 {
     attempts.point(actor).is_some() && refs.accepts(alloc, attempts.tenant, intent)

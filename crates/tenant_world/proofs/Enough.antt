@@ -13,7 +13,7 @@ use Rattle.server_rules.specs.declared.actor.Actor.{Actor}
 use Rattle.server_rules.specs.LoneTurns.{LoneTenant, is_of_agents, agents_last}
 use Rattle.server_rules.specs.Inside.Rounds.{is_some_busy, busy_actors, IsEnough}
 use Rattle.tenant_parts.specs.Busy.{busy_of}
-use Rattle.tenant_parts.specs.Lent.{AreAbove, Ascend}
+use Rattle.tenant_parts.specs.Lent.{AreAbove, ActorsAscend}
 use Rattle.tenant_parts.proofs.Listing.{number-back}
 
 abbrev Entries : Type 0
@@ -37,7 +37,7 @@ found-behind e whole (f ∷ es) above found = (
   found-behind e whole es above.1 found.1,
 )
 
-found-all : (es : Entries) → Ascend es → AreFound es es
+found-all : (es : Entries) → ActorsAscend es → AreFound es es
 found-all [] rise = tt
 found-all (e ∷ es) rise = (
   ap (λ b. if b then Some e.part else part_under e.number es) (eq-eqb e.number e.number refl),
@@ -126,7 +126,7 @@ others-filtered whole (x ∷ xs) =
         behind ∙ sym (ap (λ d. if d then x ∷ filter not_agents rest else filter not_agents rest) is)
     by false is false busy behind = behind
 
-busy-last : (es : Entries) → Ascend es
+busy-last : (es : Entries) → ActorsAscend es
     → agents_last (busy_of es) ≡ filter (may_be_busy es) (agents_last (names es))
 busy-last es rise =
     ap agents_last (busy-found es es (found-all es rise))
@@ -134,7 +134,7 @@ busy-last es rise =
     ∙ sym (filter-both (may_be_busy es) (filter not_agents (names es)) (Actor.Agents ∷ []))
 
 pub busy-enough : (l : LoneTenant) (es : Entries) (actors : List Actor) (count steps : ℕ)
-    → es ≡ l.state.actors → Ascend es → actors ≡ agents_last (busy_of es) → count ≡ length actors
+    → es ≡ l.state.actors → ActorsAscend es → actors ≡ agents_last (busy_of es) → count ≡ length actors
     → steps ≡ l.state.steps → count < steps → IsEnough l actors
 busy-enough l es actors count steps same rise are counted left room =
     let found : agents_last (busy_of es) ≡ busy_actors l =

@@ -9,7 +9,7 @@ use Rattle.tenant_world.specs.declared.answers.StartAnswer.{StartAnswer}
 use Rattle.tenant_world.specs.declared.answers.StartAnswers.{StartAnswers}
 use Rattle.tenant_world.specs.declared.answers.Replies.{Replies}
 use Rattle.tenant_world.specs.declared.answers.EndAnswer.{EndAnswer}
-use Rattle.tenant_world.specs.declared.answers.Ending.{Ending}
+use Rattle.tenant_world.specs.declared.answers.EndedEvaluation.{EndedEvaluation}
 
 abbrev pub start_answer_view : StartAnswer → StepAnswer
 start_answer_view (StartAnswer.Begun job) = form_begun (job_view job)
@@ -27,7 +27,7 @@ abbrev pub end_answer_view : EndAnswer → StepAnswer
 end_answer_view EndAnswer.Finished = form_finished
 end_answer_view EndAnswer.Interrupted = request_interrupted
 
-abbrev pub told_ending : Ending → EndingData
+abbrev pub told_ending : EndedEvaluation → EndingData
 told_ending e = record {
   job = job_view e.job.now;
   trace = trace_view e.trace.now;

@@ -3,7 +3,7 @@ use Rattle.std.specs.Prelude.{◌≡◌, true, ℕ, List, Option, MatchOption, R
 use Rattle.repl_asks.specs.Inside.View.{ask_view}
 use Rattle.repl_asks.specs.declared.ask.Ask.{Ask}
 use Rattle.repl_asks.specs.Job.{EndData, EndingData}
-use Rattle.ref_table.specs.Refs.{Refs, refs_after}
+use Rattle.ref_table.specs.Refs.{TableRefs, refs_after}
 use Rattle.server_rules.specs.DeedResult.{deed_result}
 use Rattle.server_rules.specs.Ground.{Ground}
 use Rattle.server_rules.specs.Grounds.{IsRight}
@@ -63,7 +63,7 @@ DrainsIfOk old new result bytes = (g : Ground) (q : TenantState) (s : Store)
 abbrev pub DoesAsk : {A : Type 0} → Actor → Ask → Tenant → Tenant
     → RingRefTable → RingRefTable → Result A Refusal → (A → StepAnswer) → Type 0
 DoesAsk a ask old new table_old table_new result answer =
-    (g : Ground) (q : TenantState) (s : Store) (r : Refs) → IsRight g
+    (g : Ground) (q : TenantState) (s : Store) (r : TableRefs) → IsRight g
     → StandsForState g old q s → TableServes table_old s r
     → let d = deed_result g s q (asks_for a (ask_view ask)) in
     IfOk result (λ x. AcceptsDeedBy g a q d new (answer x)
@@ -72,7 +72,7 @@ DoesAsk a ask old new table_old table_new result answer =
 abbrev pub DeclinesAsk : {A : Type 0} → Actor → Ask → Tenant → Tenant
     → RingRefTable → RingRefTable → Result A Refusal → Type 0
 DeclinesAsk a ask old new table_old table_new result =
-    (g : Ground) (q : TenantState) (s : Store) (r : Refs) → IsRight g
+    (g : Ground) (q : TenantState) (s : Store) (r : TableRefs) → IsRight g
     → StandsForState g old q s → TableServes table_old s r
     → let d = deed_result g s q (asks_for a (ask_view ask)) in
     IfErr result (λ why. RefusesDeed g q s d new why × TableServes table_new s r)
@@ -80,7 +80,7 @@ DeclinesAsk a ask old new table_old table_new result =
 abbrev pub AskLacksMemory : {A : Type 0} → Actor → Ask → Tenant → RingRefTable
     → Result A Refusal → Type 0
 AskLacksMemory a ask old table_old result =
-    (g : Ground) (q : TenantState) (s : Store) (r : Refs)
+    (g : Ground) (q : TenantState) (s : Store) (r : TableRefs)
     → StandsForState g old q s → TableServes table_old s r
     → result ≡ Err Refusal.NoMemory
     → is_accepted (deed_result g s q (asks_for a (ask_view ask))).outcome ≡ true

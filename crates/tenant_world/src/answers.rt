@@ -35,7 +35,7 @@ pub struct Replies {
 /// An evaluation that comes back at its end: its job, what it asked and was answered, and how it
 /// ended. Nothing of it is believed: the job and the trace are compared with those that were kept.
 #[derive(Clone, Copy)]
-pub struct Ending<'a> {
+pub struct EndedEvaluation<'a> {
     pub job: &'a Job,
     pub trace: &'a [Exchange],
     pub finished: &'a Finished,

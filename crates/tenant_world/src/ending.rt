@@ -23,7 +23,7 @@ ghost use Rattle.repl_asks.specs.Job.{EndingData};
 ghost use Rattle.tenant_moves.specs.Endings.{hand_after};
 
 use crate::actions::{prepare_end, settle_end};
-use crate::answers::{EndAnswer, Ending};
+use crate::answers::{EndAnswer, EndedEvaluation};
 use crate::starting::post_effects;
 use repl_asks::Finished;
 use server_rules::{Actor, Refusal};
@@ -41,7 +41,7 @@ pub(crate) fn end(
     attempts: &mut Attempts,
     actor: Actor,
     state: &mut ActorState,
-    ending: &Ending<'_>,
+    ending: &EndedEvaluation<'_>,
     aside: &mut Aside,
 ) -> Result<EndAnswer, Refusal>
     requires { SpellsEnd aside.old.spelled (told_ending ending.now).end }
@@ -132,7 +132,7 @@ pub(crate) fn finish(
 fn compare_if_due(
     memory: &Remembered,
     state: &ActorState,
-    ending: &Ending<'_>,
+    ending: &EndedEvaluation<'_>,
 ) -> Result<(), Refusal>
     ensures free { IfErr result (λ why. why ≢ Refusal.Held) }
     ensures frugal { IfErr result (λ why. why ≢ Refusal.NoMemory) }
@@ -160,7 +160,7 @@ fn run_to_compare<'a>(memory: &Remembered, state: &'a ActorState) -> Option<&'a 
 
 // Whether the ending is of the form that runs: its job is that job, and its trace the one that was
 // kept.
-fn compare(run: &Run, ending: &Ending<'_>) -> Result<(), Refusal>
+fn compare(run: &Run, ending: &EndedEvaluation<'_>) -> Result<(), Refusal>
     ensures free { IfErr result (λ why. why ≢ Refusal.Held) }
     ensures frugal { IfErr result (λ why. why ≢ Refusal.NoMemory) }
     ensures told { (g : Ground) → IsRight g

@@ -11,6 +11,6 @@ mod starting;
 mod steps;
 mod tenant;
 
-pub use answers::{EndAnswer, Ending, Replies, StartAnswer, StartAnswers};
+pub use answers::{EndAnswer, EndedEvaluation, Replies, StartAnswer, StartAnswers};
 pub use tenant::Tenant;
 pub use tenant_asks::{AskAnswer, AskAnswers};

@@ -27,7 +27,7 @@ use server_rules::{Actor, Refusal};
 use std::alloc::{AllocError, Global};
 use tenant_asks::{Remembered, interrupt};
 use tenant_moves::{
-    Begun, BegunRequest, NextForm, RequestEffects, begin, begin_request, next_form,
+    BegunForm, BegunRequest, NextForm, RequestEffects, begin, begin_request, next_form,
 };
 use tenant_parts::{ActorState, Aside, Left, Waiting, WorkInHand};
 
@@ -156,7 +156,7 @@ pub(crate) fn post_effects(
 }
 
 // What is answered. It fails only where 2^63 owners share a part of the job.
-fn begun_answer(begun: &Option<Begun>) -> Result<StartAnswer, AllocError>
+fn begun_answer(begun: &Option<BegunForm>) -> Result<StartAnswer, AllocError>
     ensures { IfOk result (λ it. start_answer_view it ≡ answer_given (given_job begun.now)) }
 {
     match begun {
@@ -166,13 +166,13 @@ fn begun_answer(begun: &Option<Begun>) -> Result<StartAnswer, AllocError>
 }
 
 // Its next form runs, or the request in hand is done.
-fn put_begun(alloc: Global, state: &mut ActorState, begun: Option<Begun>) -> StartAnswer
+fn put_begun(alloc: Global, state: &mut ActorState, begun: Option<BegunForm>) -> StartAnswer
     ensures hand { (h : rules.WorkInHand) → (actor_view state.old).hand ≡ Some h
         → actor_view state.new ≡ record (actor_view state.old) { hand = hand_begun h begun } }
     ensures answer { start_answer_view result ≡ answer_given (given_job begun) }
 {
     match begun {
-        Some(Begun { job, given }) => {
+        Some(BegunForm { job, given }) => {
             state.hand = state.hand.take().map(|hand| begin(alloc, hand, job));
             StartAnswer::Begun(given)
         }

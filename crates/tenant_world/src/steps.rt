@@ -15,7 +15,7 @@ ghost use Rattle.tenant_parts.specs.Attempts.{Reaches};
 ghost use Rattle.tenant_parts.specs.Promises.{CountsOne};
 ghost use Rattle.tenant_asks.specs.Memories.{Remembers};
 
-use crate::answers::{EndAnswer, Ending, StartAnswer, StartAnswers};
+use crate::answers::{EndAnswer, EndedEvaluation, StartAnswer, StartAnswers};
 use crate::ending::{end, finish};
 use crate::lending::{leave, lend};
 use crate::starting::start;
@@ -124,7 +124,7 @@ impl Tenant {
     pub fn end_form(
         &mut self,
         actor: Actor,
-        ending: &Ending<'_>,
+        ending: &EndedEvaluation<'_>,
         aside: &mut Aside,
     ) -> Result<EndAnswer, Refusal>
         requires { SpellsEnd aside.old.spelled (told_ending ending.now).end }

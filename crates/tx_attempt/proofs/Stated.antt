@@ -16,8 +16,8 @@ use Rattle.tx_attempt.specs.declared.key.Key.{Key}
 use Rattle.tx_attempt.specs.declared.state.RefState.{RefState}
 use Rattle.tx_attempt.specs.declared.states.RefStates.{RefStates}
 use Rattle.tx_attempt.specs.Inside.Keys.{key_of}
-use Rattle.tx_attempt.specs.Inside.States.{StateData, States, states_of, state_view, unnamed}
-use Rattle.tx_attempt.specs.Inside.States.{with_state}
+use Rattle.tx_attempt.specs.Inside.States.{RefStateData, States, states_of, ref_state_view, unnamed}
+use Rattle.tx_attempt.specs.Inside.States.{with_ref_state}
 use Rattle.tx_attempt.specs.Inside.Marks.{KeepsMark, NamesOnce, each_once}
 use Rattle.repl_asks.specs.Accesses.{AttemptData, is_among}
 use Rattle.tx_attempt.proofs.Names.{keys-tied, same_name-true}
@@ -27,17 +27,17 @@ use Rattle.tx_attempt.proofs.Listed.{among-with, once-with, listed}
 pub updated : (old new : RefStates) (k : Key) (name : RefNameData) (o : Option RefState) (n : RefNameData)
     → k ≡ key_of name → Updates (order.ghosts).cmp old.by_key new.by_key k o
     → states_of (order.ghosts).cmp new n
-    ≡ with_state name (option_map_or state_view o unnamed) (states_of (order.ghosts).cmp old) n
+    ≡ with_ref_state name (option_map_or ref_state_view o unnamed) (states_of (order.ghosts).cmp old) n
 unfolding states_of
 updated old new k name o n key now =
-    ap (λ found. option_map_or state_view found unnamed)
+    ap (λ found. option_map_or ref_state_view found unnamed)
     (now.0 (key_of n)
     ∙ ap (λ b. cond b o (get (order.ghosts).cmp old.by_key (key_of n)))
     (ap (λ (q : Key). is_eq ((order.ghosts).cmp q (key_of n))) key ∙ keys-tied name n))
     ∙ at (same_name name n) (get (order.ghosts).cmp old.by_key (key_of n))
   where
-    at : (b : Bool) (found : Option RefState) → option_map_or state_view (cond b o found) unnamed
-        ≡ cond b (option_map_or state_view o unnamed) (option_map_or state_view found unnamed)
+    at : (b : Bool) (found : Option RefState) → option_map_or ref_state_view (cond b o found) unnamed
+        ≡ cond b (option_map_or ref_state_view o unnamed) (option_map_or ref_state_view found unnamed)
     at true found = refl
     at false found = refl
 
@@ -46,20 +46,20 @@ pub unknown : (s : RefStates) (k : Key) (name : RefNameData) → k ≡ key_of na
     → get (order.ghosts).cmp s.by_key k ≡ None → states_of (order.ghosts).cmp s name ≡ unnamed
 unfolding states_of
 unknown s k name key none =
-    ap (λ found. option_map_or state_view found unnamed)
+    ap (λ found. option_map_or ref_state_view found unnamed)
     (ap (get (order.ghosts).cmp s.by_key) (sym key) ∙ none)
 
 -- a ref that was not kept is kept now, as if this was done to it
 pub inserted : (alloc : Global) (s : RefStates) (between new : BTreeMap Key RefState) (k : Key)
-    (name : RefNameData) (made : RefState) (change : StateData → StateData) (n : RefNameData)
+    (name : RefNameData) (made : RefState) (change : RefStateData → RefStateData) (n : RefNameData)
     → k ≡ key_of name → None ≡ get (order.ghosts).cmp s.by_key k → between ≡ s.by_key
-    → Updates (order.ghosts).cmp between new k (Some made) → state_view made ≡ change unnamed
+    → Updates (order.ghosts).cmp between new k (Some made) → ref_state_view made ≡ change unnamed
     → states_of (order.ghosts).cmp (record { alloc = alloc; by_key = new }) n
-    ≡ with_state name (change (states_of (order.ghosts).cmp s name)) (states_of (order.ghosts).cmp s) n
+    ≡ with_ref_state name (change (states_of (order.ghosts).cmp s name)) (states_of (order.ghosts).cmp s) n
 inserted alloc s between new k name made change n key none same now is =
     updated s (record { alloc = alloc; by_key = new }) k name (Some made) n key
     (subst (λ (m : BTreeMap Key RefState). Updates (order.ghosts).cmp m new k (Some made)) same now)
-    ∙ ap (λ x. with_state name x (states_of (order.ghosts).cmp s) n)
+    ∙ ap (λ x. with_ref_state name x (states_of (order.ghosts).cmp s) n)
     (is ∙ ap change (sym (unknown s k name key (sym none))))
 
 -- a ref that was commuted is kept
@@ -69,8 +69,8 @@ pub commuted-known : (s : RefStates) (name : RefNameData)
 unfolding states_of
 commuted-known s name e = at (get (order.ghosts).cmp s.by_key (key_of name)) e
   where
-    at : (o : Option RefState) → (option_map_or state_view o unnamed).is_commuted ≡ true
-        → is_some (option_map_or state_view o unnamed).value ≡ true
+    at : (o : Option RefState) → (option_map_or ref_state_view o unnamed).is_commuted ≡ true
+        → is_some (option_map_or ref_state_view o unnamed).value ≡ true
     at None e = absurd (cc)
     at (Some state) e = refl
 
@@ -94,36 +94,36 @@ same-data sends f g s t e d c b alike sets ensured commuted =
     ∙ ap₂ (λ (xs ys : List RefName). data_of sends f s xs ys) ensured commuted
 
 -- A ref has a new state.
-pub record Restated (f g : States) (name : RefNameData) (new : StateData) : Type 0 where
-  pub at : (n : RefNameData) → g n ≡ with_state name new f n
+pub record Restated (f g : States) (name : RefNameData) (new : RefStateData) : Type 0 where
+  pub at : (n : RefNameData) → g n ≡ with_ref_state name new f n
 
-pub values-now : (f g : States) (name : RefNameData) (new : StateData) (d : Datum)
+pub values-now : (f g : States) (name : RefNameData) (new : RefStateData) (d : Datum)
     → Restated f g name new → new.value ≡ Some d
     → ◌≡◌ {A = RefNameData → Option Datum} (λ n. (g n).value)
     (λ n. cond (same_name name n) (Some d) (f n).value)
 values-now f g name new d now is =
-    fun_ext (λ n. ap (λ (s : StateData). s.value) (now.at n) ∙ at n (same_name name n))
+    fun_ext (λ n. ap (λ (s : RefStateData). s.value) (now.at n) ∙ at n (same_name name n))
   where
     at : (n : RefNameData) (b : Bool) → (cond b new (f n)).value ≡ cond b (Some d) (f n).value
     at n true = is
     at n false = refl
 
-pub commutes-stay : (f g : States) (name : RefNameData) (new : StateData)
+pub commutes-stay : (f g : States) (name : RefNameData) (new : RefStateData)
     → Restated f g name new → new.commutes ≡ (f name).commutes
     → ◌≡◌ {A = RefNameData → List CommuteData} (λ n. (g n).commutes) (λ n. (f n).commutes)
 commutes-stay f g name new now is =
-    fun_ext (λ n. ap (λ (s : StateData). s.commutes) (now.at n) ∙ at n (same_name name n) refl)
+    fun_ext (λ n. ap (λ (s : RefStateData). s.commutes) (now.at n) ∙ at n (same_name name n) refl)
   where
     at : (n : RefNameData) (b : Bool) → same_name name n ≡ b → (cond b new (f n)).commutes ≡ (f n).commutes
     at n true same = is ∙ ap (λ m. (f m).commutes) (same_name-true name n same)
     at n false same = refl
 
-pub commutes-more : (f g : States) (name : RefNameData) (new : StateData) (c : CommuteData)
+pub commutes-more : (f g : States) (name : RefNameData) (new : RefStateData) (c : CommuteData)
     → Restated f g name new → new.commutes ≡ (f name).commutes ++ c ∷ []
     → ◌≡◌ {A = RefNameData → List CommuteData} (λ n. (g n).commutes)
     (λ n. cond (same_name name n) ((f n).commutes ++ c ∷ []) (f n).commutes)
 commutes-more f g name new c now is =
-    fun_ext (λ n. ap (λ (s : StateData). s.commutes) (now.at n) ∙ at n (same_name name n) refl)
+    fun_ext (λ n. ap (λ (s : RefStateData). s.commutes) (now.at n) ∙ at n (same_name name n) refl)
   where
     at : (n : RefNameData) (b : Bool) → same_name name n ≡ b
         → (cond b new (f n)).commutes ≡ cond b ((f n).commutes ++ c ∷ []) (f n).commutes
@@ -131,7 +131,7 @@ commutes-more f g name new c now is =
     at n false same = refl
 
 -- the marks of a list that stays
-pub marks-stay : (mark : StateData → Bool) (f g : States) (name : RefNameData) (new : StateData)
+pub marks-stay : (mark : RefStateData → Bool) (f g : States) (name : RefNameData) (new : RefStateData)
     (names : List RefName) → Restated f g name new → mark new ≡ mark (f name)
     → KeepsMark mark f names → KeepsMark mark g names
 marks-stay mark f g name new names now same kept n =
@@ -142,7 +142,7 @@ marks-stay mark f g name new names now same kept n =
     at false e = refl
 
 -- and of one to which the ref is added
-pub marks-more : (mark : StateData → Bool) (f g : States) (name : RefName) (new : StateData)
+pub marks-more : (mark : RefStateData → Bool) (f g : States) (name : RefName) (new : RefStateData)
     (first : Bool) (before after : List RefName) → Restated f g (name_view name) new → mark new ≡ true
     → first ≡ not (mark (f (name_view name))) → after ≡ cond first (before ++ name ∷ []) before
     → KeepsMark mark f before → KeepsMark mark g after
@@ -156,7 +156,7 @@ marks-more mark f g name new first before after now marked is e kept n =
     at true = marked
     at false = refl
 
-pub once-more : (mark : StateData → Bool) (f : States) (name : RefName) (first : Bool)
+pub once-more : (mark : RefStateData → Bool) (f : States) (name : RefName) (first : Bool)
     (before after : List RefName) → first ≡ not (mark (f (name_view name)))
     → after ≡ cond first (before ++ name ∷ []) before → KeepsMark mark f before
     → NamesOnce before → NamesOnce after

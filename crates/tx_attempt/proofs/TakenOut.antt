@@ -11,7 +11,7 @@ use Rattle.value_data.specs.declared.value.RefName.{RefName}
 use Rattle.repl_asks.specs.Transactions.{RefNameData, CommuteData, CommutedData, same_name}
 use Rattle.repl_asks.specs.Inside.View.{name_view}
 use Rattle.repl_asks.specs.Accesses.{is_among}
-use Rattle.tx_attempt.specs.Inside.States.{StateData, States, unnamed, with_state}
+use Rattle.tx_attempt.specs.Inside.States.{RefStateData, States, unnamed, with_ref_state}
 use Rattle.tx_attempt.specs.Inside.States.{commuted_in}
 use Rattle.tx_attempt.specs.Inside.Marks.{each_once, NamesOnce}
 use Rattle.tx_attempt.proofs.Listed.{among-push, once-apart}
@@ -35,7 +35,7 @@ names-apart names i d more once =
 
 -- the names so far and this one are named no more
 pub left-more : (f now next : States) (done : List RefNameData) (name n : RefNameData)
-    → now n ≡ cond (is_among n done) unnamed (f n) → next n ≡ with_state name unnamed now n
+    → now n ≡ cond (is_among n done) unnamed (f n) → next n ≡ with_ref_state name unnamed now n
     → next n ≡ cond (is_among n (done ++ name ∷ [])) unnamed (f n)
 left-more f now next done name n so_far is =
     is ∙ ap (cond (same_name name n) unnamed) so_far ∙ at (same_name name n) (is_among n done)
@@ -88,7 +88,7 @@ groups f g sets [] out e = refl
 groups f g sets (n ∷ ns) out e =
     let both = both_true (is_some (f n).value) (list_all (λ n. is_some (f n).value) ns) e in
     ap₂ cons_option
-    (ap (λ (s : StateData). option_map (λ d. record { name = n; commutes = s.commutes }) s.value) (out.at n))
+    (ap (λ (s : RefStateData). option_map (λ d. record { name = n; commutes = s.commutes }) s.value) (out.at n))
     (groups f g sets ns out both.1)
     ∙ at (is_among n sets) (f n).value both.0 (filter (λ m. not (is_among m sets)) ns)
   where

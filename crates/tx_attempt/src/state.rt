@@ -2,7 +2,7 @@
 ghost use Rattle.std.specs.Prelude.{◌≡◌, not, map, OnErr, OnOk, IfOk};
 ghost use Rattle.value_data.specs.Inside.View.{view};
 ghost use Rattle.repl_asks.specs.Inside.View.{commute_view};
-ghost use Rattle.tx_attempt.specs.Inside.States.{state_view, unnamed, marked, is_marked};
+ghost use Rattle.tx_attempt.specs.Inside.States.{ref_state_view, unnamed, marked, is_marked};
 ghost use Rattle.tx_attempt.specs.Inside.States.{has_value, has_commute};
 
 use repl_asks::Commute;
@@ -29,7 +29,7 @@ pub(crate) enum Mark {
 
 impl RefState {
     pub(crate) fn new(alloc: Global, value: Value) -> RefState
-        ensures { state_view result ≡ has_value (view value) unnamed }
+        ensures { ref_state_view result ≡ has_value (view value) unnamed }
     {
         RefState {
             value,
@@ -42,8 +42,8 @@ impl RefState {
 
     // Whether this was not done to it before, nothing being done by a read.
     pub(crate) fn mark(&mut self, mark: Mark) -> bool
-        ensures marked { state_view self.new ≡ marked mark (state_view self.old) }
-        ensures first { result ≡ not (is_marked mark (state_view self.old)) }
+        ensures marked { ref_state_view self.new ≡ marked mark (ref_state_view self.old) }
+        ensures first { result ≡ not (is_marked mark (ref_state_view self.old)) }
     {
         match mark {
             Mark::Read => false,
@@ -62,10 +62,10 @@ impl RefState {
 
     // Whether it was not commuted before. After want of memory it is as it was.
     pub(crate) fn commute(&mut self, commute: Commute) -> Result<bool, AllocError>
-        ensures commuted { OnOk result (state_view self.new
-            ≡ has_commute (commute_view commute) (state_view self.old)) }
+        ensures commuted { OnOk result (ref_state_view self.new
+            ≡ has_commute (commute_view commute) (ref_state_view self.old)) }
         ensures first { IfOk result (λ first. first ≡ not self.old.is_commuted) }
-        ensures stays { OnErr result (state_view self.new ≡ state_view self.old) }
+        ensures stays { OnErr result (ref_state_view self.new ≡ ref_state_view self.old) }
     {
         self.commutes.push(commute)?;
         let is_first = !self.is_commuted;
@@ -74,7 +74,7 @@ impl RefState {
     }
 
     pub(crate) fn into_commutes(self) -> Vec<Commute>
-        ensures { map commute_view result.items ≡ (state_view self).commutes }
+        ensures { map commute_view result.items ≡ (ref_state_view self).commutes }
     {
         self.commutes
     }

@@ -4,8 +4,9 @@ ghost use Rattle.std.specs.Option.{option_map_or};
 ghost use Rattle.value_data.specs.Inside.View.{view};
 ghost use Rattle.repl_asks.specs.Inside.View.{name_view, commute_view};
 ghost use Rattle.repl_asks.specs.Transactions.{RefNameData};
-ghost use Rattle.tx_attempt.specs.Inside.States.{states_of, with_state, unnamed, marked, is_marked};
-ghost use Rattle.tx_attempt.specs.Inside.States.{state_view, has_value, has_commute};
+ghost use Rattle.tx_attempt.specs.Inside.States.{states_of, with_ref_state, unnamed, marked};
+ghost use Rattle.tx_attempt.specs.Inside.States.{is_marked};
+ghost use Rattle.tx_attempt.specs.Inside.States.{ref_state_view, has_value, has_commute};
 
 use crate::key::Key;
 use crate::state::{Mark, RefState};
@@ -62,7 +63,7 @@ impl RefStates {
     ) -> Result<bool, AllocError>
         ensures noted { OnOk result ((n : RefNameData)
             → states_of ⟦<Key as Ord>⟧.cmp self.new n
-            ≡ with_state (name_view name) (marked mark (has_value (view value)
+            ≡ with_ref_state (name_view name) (marked mark (has_value (view value)
             (states_of ⟦<Key as Ord>⟧.cmp self.old (name_view name))))
             (states_of ⟦<Key as Ord>⟧.cmp self.old) n) }
         ensures first { IfOk result (λ first. first
@@ -91,7 +92,7 @@ impl RefStates {
     ) -> Result<bool, AllocError>
         ensures noted { OnOk result ((n : RefNameData)
             → states_of ⟦<Key as Ord>⟧.cmp self.new n
-            ≡ with_state (name_view name)
+            ≡ with_ref_state (name_view name)
             (has_value (view value) (has_commute (commute_view commute)
             (states_of ⟦<Key as Ord>⟧.cmp self.old (name_view name))))
             (states_of ⟦<Key as Ord>⟧.cmp self.old) n) }
@@ -115,10 +116,10 @@ impl RefStates {
 
     // What is kept of a ref, which is named no more.
     pub(crate) fn take(&mut self, name: RefName) -> Option<RefState>
-        ensures taken { option_map_or state_view result unnamed
+        ensures taken { option_map_or ref_state_view result unnamed
             ≡ states_of ⟦<Key as Ord>⟧.cmp self.old (name_view name) }
         ensures left { (n : RefNameData) → states_of ⟦<Key as Ord>⟧.cmp self.new n
-            ≡ with_state (name_view name) unnamed (states_of ⟦<Key as Ord>⟧.cmp self.old) n }
+            ≡ with_ref_state (name_view name) unnamed (states_of ⟦<Key as Ord>⟧.cmp self.old) n }
     {
         self.by_key.remove(&Key::of(name))
     }

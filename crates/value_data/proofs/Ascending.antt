@@ -22,7 +22,7 @@ use Rattle.value_data.specs.Inside.Index.{key_at, ArePlaces, Ascend, Indexes}
 use Rattle.value_data.proofs.Ordered.{order-Less}
 use Rattle.value_data.proofs.Equivalence.{and-both}
 use Rattle.value_data.proofs.Tables.{has_key-first, true-not}
-use Rattle.value_data.specs.Inside.Seen.{key_in, value_in}
+use Rattle.value_data.specs.Inside.Seen.{key_in, value_of_pair}
 use Rattle.value_data.proofs.Lists.{listed-of}
 use Rattle.value_data.proofs.Removing.{no-repeat, take-past}
 use Rattle.value_data.proofs.Searching.{any-default, none-at, one-rank}
@@ -109,23 +109,23 @@ pub row-whole : (xs : List (Value × Value)) (n : ℕ) → length xs ≤ n → p
 row-whole xs n h = ap (λ (ys : List (Value × Value)). pairs_view ys) (take-past xs n h)
 
 -- keys and values that were parted stand beside each other again
-pub zip-parts : (qs : List (Datum × Datum)) → zip (map key_in qs) (map value_in qs) ≡ qs
+pub zip-parts : (qs : List (Datum × Datum)) → zip (map key_in qs) (map value_of_pair qs) ≡ qs
 zip-parts [] = refl
 zip-parts (q ∷ qs) = ap (λ (rs : List (Datum × Datum)). q ∷ rs) (zip-parts qs)
 
 module _ (ks vs : List Value) (rest qs : List (Datum × Datum)) (none : rest ≡ []) (keys : map view ks ++ map key_in rest ≡ map key_in qs)
-    (values : map view vs ++ map value_in rest ≡ map value_in qs) where
+    (values : map view vs ++ map value_of_pair rest ≡ map value_of_pair qs) where
   keys-are : map view ks ≡ map key_in qs
   keys-are = sym (append-nil (map view ks)) ∙ ap (λ (rs : List (Datum × Datum)). map view ks ++ map key_in rs) (sym none) ∙ keys
 
-  values-are : map view vs ≡ map value_in qs
-  values-are = sym (append-nil (map view vs)) ∙ ap (λ (rs : List (Datum × Datum)). map view vs ++ map value_in rs) (sym none) ∙ values
+  values-are : map view vs ≡ map value_of_pair qs
+  values-are = sym (append-nil (map view vs)) ∙ ap (λ (rs : List (Datum × Datum)). map view vs ++ map value_of_pair rs) (sym none) ∙ values
 
   pub parted-even : (a b : Items) → a ≡ items_view ks → b ≡ items_view vs → length (listed b) ≡ length (listed a)
   parted-even a b e f =
       ap (λ (d : Items). length (listed d)) f
       ∙ ap (λ (ds : List Datum). length ds) (listed-of (map view vs) ∙ values-are)
-      ∙ length-map qs value_in
+      ∙ length-map qs value_of_pair
       ∙ sym (length-map qs key_in)
       ∙ ap (λ (ds : List Datum). length ds) (sym (listed-of (map view ks) ∙ keys-are))
       ∙ ap (λ (d : Items). length (listed d)) (sym e)

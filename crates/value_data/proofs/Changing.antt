@@ -7,8 +7,8 @@ use Rattle.value_data.specs.Datum.{Datum}
 use Rattle.value_data.specs.Inside.View.{view, views}
 use Rattle.value_data.specs.Inside.Changes.{changed, HasPlace}
 use Rattle.value_data.specs.declared.value.Value.{Value}
-use Rattle.value_data.specs.declared.changes.Change.{Change}
-use Rattle.value_data.specs.declared.changes.Change.TheVariants as is
+use Rattle.value_data.specs.declared.changes.ItemChange.{ItemChange}
+use Rattle.value_data.specs.declared.changes.ItemChange.TheVariants as is
 
 pub views-insert : (vs : List Value) (n : ℕ) (v : Value) → views (insert vs n v) ≡ insert (views vs) n (view v)
 views-insert [] zero v = refl
@@ -49,17 +49,17 @@ remove-right [] ys n m e =
 remove-right (x ∷ xs) ys zero m e = absurd (omega (arith, e))
 remove-right (x ∷ xs) ys (suc n) m e = ap (λ (es : List Datum). x ∷ es) (remove-right xs ys n m (omega (arith, e)))
 
-pub changed-left : (c : Change) (n : ℕ) (xs ys : List Datum) → HasPlace c n (length xs) → changed c n (xs ++ ys) ≡ changed c n xs ++ ys
+pub changed-left : (c : ItemChange) (n : ℕ) (xs ys : List Datum) → HasPlace c n (length xs) → changed c n (xs ++ ys) ≡ changed c n xs ++ ys
 changed-left (is.Insert v) n xs ys h = insert-append_left xs ys n (view v) h
 changed-left (is.Replace v) n xs ys h = set-append_left xs ys n (view v) h
 changed-left is.Remove n xs ys h = remove-left xs ys n h
 
-pub changed-right : (c : Change) (n : ℕ) (xs ys : List Datum) → length xs ≤ n → changed c n (xs ++ ys) ≡ xs ++ changed c (n - length xs) ys
+pub changed-right : (c : ItemChange) (n : ℕ) (xs ys : List Datum) → length xs ≤ n → changed c n (xs ++ ys) ≡ xs ++ changed c (n - length xs) ys
 changed-right (is.Insert v) n xs ys h = insert-append_right xs ys (length xs) n (view v) refl h
 changed-right (is.Replace v) n xs ys h = set-append_right xs ys (length xs) n (view v) refl h
 changed-right is.Remove n xs ys h = remove-right xs ys n (n - length xs) (omega (arith, h))
 
-pub place-right : (c : Change) (n a b : ℕ) → HasPlace c n (a + b) → a ≤ n → HasPlace c (n - a) b
+pub place-right : (c : ItemChange) (n a b : ℕ) → HasPlace c n (a + b) → a ≤ n → HasPlace c (n - a) b
 place-right (is.Insert v) n a b h l = omega (arith, h, l)
 place-right (is.Replace v) n a b h l = omega (arith, h, l)
 place-right is.Remove n a b h l = omega (arith, h, l)
@@ -82,7 +82,7 @@ length-set [] (suc n) d = refl
 length-set (x ∷ ds) zero d = refl
 length-set (x ∷ ds) (suc n) d = omega (arith, length-set ds n d)
 
-pub changed-length : (c : Change) (n : ℕ) (ds : List Datum) → HasPlace c n (length ds) → length (changed c n ds) ≤ length ds + 1
+pub changed-length : (c : ItemChange) (n : ℕ) (ds : List Datum) → HasPlace c n (length ds) → length (changed c n ds) ≤ length ds + 1
 changed-length (is.Insert v) n ds h = omega (arith, length-insert ds n (view v) h)
 changed-length (is.Replace v) n ds h = omega (arith, length-set ds n (view v))
 changed-length is.Remove n ds h = omega (arith, length-remove ds n)

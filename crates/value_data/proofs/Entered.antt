@@ -10,7 +10,7 @@ use Rattle.value_data.specs.Inside.Held.{SequenceData, EntriesData}
 use Rattle.value_data.specs.Inside.Nodes.{seen_entries, AreEven}
 use Rattle.value_data.specs.Inside.View.{pair_view}
 use Rattle.value_data.specs.declared.value.Value.{Value}
-use Rattle.value_data.specs.Inside.Seen.{key_in, value_in}
+use Rattle.value_data.specs.Inside.Seen.{key_in, value_of_pair}
 
 pub items-listed : (ds : Items) → items_of (listed ds) ≡ ds
 items-listed no_items = refl
@@ -28,13 +28,13 @@ module _ (ks vs : SequenceData) (e : EntriesData) (even : AreEven ks vs) (is : s
   pub keys-are : map key_in e.listed ≡ listed ks.items
   keys-are = sym (ap (λ (d : EntriesData). map key_in d.listed) is) ∙ firsts-zip (listed ks.items) (listed vs.items) even
 
-  pub values-are : map value_in e.listed ≡ listed vs.items
-  values-are = sym (ap (λ (d : EntriesData). map value_in d.listed) is) ∙ seconds-zip (listed ks.items) (listed vs.items) even
+  pub values-are : map value_of_pair e.listed ≡ listed vs.items
+  values-are = sym (ap (λ (d : EntriesData). map value_of_pair d.listed) is) ∙ seconds-zip (listed ks.items) (listed vs.items) even
 
   pub key-items : ks.items ≡ items_of (map key_in e.listed)
   key-items = sym (items-listed ks.items) ∙ ap items_of (sym keys-are)
 
-  pub value-items : vs.items ≡ items_of (map value_in e.listed)
+  pub value-items : vs.items ≡ items_of (map value_of_pair e.listed)
   value-items = sym (items-listed vs.items) ∙ ap items_of (sym values-are)
 
   pub pair-at : (n : ℕ) (d : Datum × Datum) → n < length e.listed → d.0 ≡ get_or (listed ks.items) n d.0 → d.1 ≡ get_or (listed vs.items) n d.1

@@ -7,7 +7,7 @@ use Rattle.std.proofs.lemmas.Bool.Decides.{Decides-int_eq}
 use Rattle.std.proofs.lemmas.Slice.Eq.{bytes_eq-Decides}
 use Rattle.std.specs.Str.{bytes_eq}
 use Rattle.value_data.specs.Datum.{OwnerData, shared, tenant, Datum, nil, boolean, integer, string, keyword, symbol, list, vector, map, ref, atom, agent, var, fault, Items, no_items, item, Pairs, no_pairs, pair}
-use Rattle.value_data.specs.Same.{same, same_owner, same_items, size, within, each_pair, is_among, has_pair}
+use Rattle.value_data.specs.Same.{same, same_owner, same_items, size, within, each_pair, is_pair_among, has_pair}
 
 pub and-left : (a b : Bool) → (a && b) ≡ true → a ≡ true
 and-left true b h = refl
@@ -77,8 +77,8 @@ mutual
   same-refl (list ds) = items-refl ds
   same-refl (vector ds) = items-refl ds
   same-refl (map ps) =
-      and-both (size ps == size ps) (within ps ps && each_pair (is_among ps) ps) (eqb-self (size ps))
-      (and-both (within ps ps) (each_pair (is_among ps) ps) (within-refl ps) (among-refl ps))
+      and-both (size ps == size ps) (within ps ps && each_pair (is_pair_among ps) ps) (eqb-self (size ps))
+      (and-both (within ps ps) (each_pair (is_pair_among ps) ps) (within-refl ps) (among-refl ps))
   same-refl (ref o n) = and-both (same_owner o o) (n == n) (owner-refl o) (eqb-self n)
   same-refl (atom n) = eqb-self n
   same-refl (agent n) = eqb-self n
@@ -96,29 +96,29 @@ mutual
       (head-both (same k k) (same v v) (has_pair (same k) (same v) ps) (same-refl k) (same-refl v))
       (within-grows ps ps k v (within-refl ps))
 
-  among-refl : (ps : Pairs) → each_pair (is_among ps) ps ≡ true
+  among-refl : (ps : Pairs) → each_pair (is_pair_among ps) ps ≡ true
   among-refl no_pairs = refl
   among-refl (pair k v ps) =
-      and-both (is_among (pair k v ps) k v) (each_pair (is_among (pair k v ps)) ps)
-      (head-both (same k k) (same v v) (is_among ps k v) (same-refl k) (same-refl v))
-      (each_pair-imp (is_among ps) (is_among (pair k v ps)) (λ l w. or-right (same k l && same v w) (is_among ps l w)) ps (among-refl ps))
+      and-both (is_pair_among (pair k v ps) k v) (each_pair (is_pair_among (pair k v ps)) ps)
+      (head-both (same k k) (same v v) (is_pair_among ps k v) (same-refl k) (same-refl v))
+      (each_pair-imp (is_pair_among ps) (is_pair_among (pair k v ps)) (λ l w. or-right (same k l && same v w) (is_pair_among ps l w)) ps (among-refl ps))
 
 -- a pair that passes stands among the others where its tests are equality the other way
 has_pair-among : (k v : Datum) → ((e : Datum) → same k e ≡ true → same e k ≡ true) → ((e : Datum) → same v e ≡ true → same e v ≡ true)
-    → (qs : Pairs) → has_pair (same k) (same v) qs ≡ true → is_among qs k v ≡ true
+    → (qs : Pairs) → has_pair (same k) (same v) qs ≡ true → is_pair_among qs k v ≡ true
 has_pair-among k v f g no_pairs h = h
 has_pair-among k v f g (pair l w qs) h =
-    or-cases (same k l && same v w) (has_pair (same k) (same v) qs) ((same l k && same w v) || is_among qs k v)
-    (λ a. head-both (same l k) (same w v) (is_among qs k v) (f l (and-left (same k l) (same v w) a)) (g w (and-right (same k l) (same v w) a)))
-    (λ b. or-right (same l k && same w v) (is_among qs k v) (has_pair-among k v f g qs b))
+    or-cases (same k l && same v w) (has_pair (same k) (same v) qs) ((same l k && same w v) || is_pair_among qs k v)
+    (λ a. head-both (same l k) (same w v) (is_pair_among qs k v) (f l (and-left (same k l) (same v w) a)) (g w (and-right (same k l) (same v w) a)))
+    (λ b. or-right (same l k && same w v) (is_pair_among qs k v) (has_pair-among k v f g qs b))
     h
 
-each_pair-within : (ps : Pairs) → ((l w : Datum) → is_among ps l w ≡ true → has_pair (same l) (same w) ps ≡ true)
-    → (qs : Pairs) → each_pair (is_among ps) qs ≡ true → within qs ps ≡ true
+each_pair-within : (ps : Pairs) → ((l w : Datum) → is_pair_among ps l w ≡ true → has_pair (same l) (same w) ps ≡ true)
+    → (qs : Pairs) → each_pair (is_pair_among ps) qs ≡ true → within qs ps ≡ true
 each_pair-within ps f no_pairs h = refl
 each_pair-within ps f (pair l w qs) h =
-    and-both (has_pair (same l) (same w) ps) (within qs ps) (f l w (and-left (is_among ps l w) (each_pair (is_among ps) qs) h))
-    (each_pair-within ps f qs (and-right (is_among ps l w) (each_pair (is_among ps) qs) h))
+    and-both (has_pair (same l) (same w) ps) (within qs ps) (f l w (and-left (is_pair_among ps l w) (each_pair (is_pair_among ps) qs) h))
+    (each_pair-within ps f qs (and-right (is_pair_among ps l w) (each_pair (is_pair_among ps) qs) h))
 
 owner-sym : (o p : OwnerData) → same_owner o p ≡ true → same_owner p o ≡ true
 owner-sym shared shared h = refl
@@ -145,12 +145,12 @@ mutual
   same-sym (vector ds) (list es) h = items-sym ds es h
   same-sym (vector ds) (vector es) h = items-sym ds es h
   same-sym (map ps) (map qs) h =
-      let parts : (within ps qs && each_pair (is_among ps) qs) ≡ true = and-right (size ps == size qs) (within ps qs && each_pair (is_among ps) qs) h in
-      and-both (size qs == size ps) (within qs ps && each_pair (is_among qs) ps)
-      (eq-eqb (size qs) (size ps) (sym (eqb-true (size ps) (size qs) (and-left (size ps == size qs) (within ps qs && each_pair (is_among ps) qs) h))))
-      (and-both (within qs ps) (each_pair (is_among qs) ps)
-      (each_pair-within ps (is_among-sym ps) qs (and-right (within ps qs) (each_pair (is_among ps) qs) parts))
-      (within-sym ps qs (and-left (within ps qs) (each_pair (is_among ps) qs) parts)))
+      let parts : (within ps qs && each_pair (is_pair_among ps) qs) ≡ true = and-right (size ps == size qs) (within ps qs && each_pair (is_pair_among ps) qs) h in
+      and-both (size qs == size ps) (within qs ps && each_pair (is_pair_among qs) ps)
+      (eq-eqb (size qs) (size ps) (sym (eqb-true (size ps) (size qs) (and-left (size ps == size qs) (within ps qs && each_pair (is_pair_among ps) qs) h))))
+      (and-both (within qs ps) (each_pair (is_pair_among qs) ps)
+      (each_pair-within ps (is_pair_among-sym ps) qs (and-right (within ps qs) (each_pair (is_pair_among ps) qs) parts))
+      (within-sym ps qs (and-left (within ps qs) (each_pair (is_pair_among ps) qs) parts)))
   same-sym (ref o m) (ref p n) h =
       and-both (same_owner p o) (n == m) (owner-sym o p (and-left (same_owner o p) (m == n) h))
       (eq-eqb n m (sym (eqb-true m n (and-right (same_owner o p) (m == n) h))))
@@ -167,17 +167,17 @@ mutual
   items-sym (item d ds) (item e es) h =
       and-both (same e d) (same_items es ds) (same-sym d e (and-left (same d e) (same_items ds es) h)) (items-sym ds es (and-right (same d e) (same_items ds es) h))
 
-  within-sym : (ps qs : Pairs) → within ps qs ≡ true → each_pair (is_among qs) ps ≡ true
+  within-sym : (ps qs : Pairs) → within ps qs ≡ true → each_pair (is_pair_among qs) ps ≡ true
   within-sym no_pairs qs h = refl
   within-sym (pair k v ps) qs h =
-      and-both (is_among qs k v) (each_pair (is_among qs) ps)
+      and-both (is_pair_among qs k v) (each_pair (is_pair_among qs) ps)
       (has_pair-among k v (same-sym k) (same-sym v) qs (and-left (has_pair (same k) (same v) qs) (within ps qs) h))
       (within-sym ps qs (and-right (has_pair (same k) (same v) qs) (within ps qs) h))
 
-  is_among-sym : (ps : Pairs) (l w : Datum) → is_among ps l w ≡ true → has_pair (same l) (same w) ps ≡ true
-  is_among-sym no_pairs l w h = h
-  is_among-sym (pair k v ps) l w h =
-      or-cases (same k l && same v w) (is_among ps l w) ((same l k && same w v) || has_pair (same l) (same w) ps)
+  is_pair_among-sym : (ps : Pairs) (l w : Datum) → is_pair_among ps l w ≡ true → has_pair (same l) (same w) ps ≡ true
+  is_pair_among-sym no_pairs l w h = h
+  is_pair_among-sym (pair k v ps) l w h =
+      or-cases (same k l && same v w) (is_pair_among ps l w) ((same l k && same w v) || has_pair (same l) (same w) ps)
       (λ a. head-both (same l k) (same w v) (has_pair (same l) (same w) ps) (same-sym k l (and-left (same k l) (same v w) a)) (same-sym v w (and-right (same k l) (same v w) a)))
-      (λ b. or-right (same l k && same w v) (has_pair (same l) (same w) ps) (is_among-sym ps l w b))
+      (λ b. or-right (same l k && same w v) (has_pair (same l) (same w) ps) (is_pair_among-sym ps l w b))
       h

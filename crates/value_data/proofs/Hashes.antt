@@ -7,7 +7,7 @@ use Rattle.std.proofs.lemmas.Bool.{eqb-true}
 use Rattle.std.proofs.lemmas.Bool.Decides.{Decides-int_eq}
 use Rattle.std.proofs.lemmas.Slice.Eq.{bytes_eq-Decides}
 use Rattle.value_data.specs.Datum.{OwnerData, shared, tenant, Datum, nil, boolean, integer, string, keyword, symbol, list, vector, map, ref, atom, agent, var, fault, Items, no_items, item, Pairs, no_pairs, pair}
-use Rattle.value_data.specs.Same.{same, same_owner, same_items, size, within, each_pair, is_among, has_pair}
+use Rattle.value_data.specs.Same.{same, same_owner, same_items, size, within, each_pair, is_pair_among, has_pair}
 use Rattle.value_data.specs.Inside.Hash.{hash, items_hash, peak, mixed, salted, text_hash, owner_hash, pair_hash}
 
 -- the parts of a test that is true
@@ -66,11 +66,11 @@ mutual
   hash-same (vector ds) (list es) h = items-hash-same ds es 7 h
   hash-same (vector ds) (vector es) h = items-hash-same ds es 7 h
   hash-same (map ps) (map qs) h =
-      map-hash ps qs (eqb-true (size ps) (size qs) (and-left _ (within ps qs && each_pair (is_among ps) qs) h))
+      map-hash ps qs (eqb-true (size ps) (size qs) (and-left _ (within ps qs && each_pair (is_pair_among ps) qs) h))
       (λ salt. le_antisymm
-      (within-peak ps qs salt (and-left (within ps qs) (each_pair (is_among ps) qs) (and-right _ (within ps qs && each_pair (is_among ps) qs) h)))
-      (each_pair-peak salt (is_among ps) (peak salt ps) (λ l w. is_among-peak ps l w salt) qs
-      (and-right (within ps qs) (each_pair (is_among ps) qs) (and-right _ (within ps qs && each_pair (is_among ps) qs) h))))
+      (within-peak ps qs salt (and-left (within ps qs) (each_pair (is_pair_among ps) qs) (and-right _ (within ps qs && each_pair (is_pair_among ps) qs) h)))
+      (each_pair-peak salt (is_pair_among ps) (peak salt ps) (λ l w. is_pair_among-peak ps l w salt) qs
+      (and-right (within ps qs) (each_pair (is_pair_among ps) qs) (and-right _ (within ps qs && each_pair (is_pair_among ps) qs) h))))
   hash-same (ref o m) (ref p n) h =
       rw (owner-same o p (and-left (same_owner o p) _ h), eqb-true m n (and-right (same_owner o p) _ h)) refl
   hash-same (atom m) (atom n) h = ap (mixed 12) (eqb-true m n h)
@@ -94,8 +94,8 @@ mutual
       (has_pair-peak salt (hash k) (hash v) (same k) (same v) (hash-same k) (hash-same v) qs (and-left (has_pair (same k) (same v) qs) (within ps qs) h))
       (within-peak ps qs salt (and-right (has_pair (same k) (same v) qs) (within ps qs) h))
 
-  is_among-peak : (ps : Pairs) (l w : Datum) (salt : ℕ) → is_among ps l w ≡ true → salted salt (pair_hash (hash l) (hash w)) ≤ peak salt ps
-  is_among-peak no_pairs l w salt h = absurd (cc)
-  is_among-peak (pair k v ps) l w salt h =
-      either (same k l) (same v w) (is_among ps l w) (salted salt (pair_hash (hash k) (hash v))) (salted salt (pair_hash (hash l) (hash w))) (peak salt ps)
-      (λ a b. rw (hash-same k l a, hash-same v w b) refl) (is_among-peak ps l w salt) h
+  is_pair_among-peak : (ps : Pairs) (l w : Datum) (salt : ℕ) → is_pair_among ps l w ≡ true → salted salt (pair_hash (hash l) (hash w)) ≤ peak salt ps
+  is_pair_among-peak no_pairs l w salt h = absurd (cc)
+  is_pair_among-peak (pair k v ps) l w salt h =
+      either (same k l) (same v w) (is_pair_among ps l w) (salted salt (pair_hash (hash k) (hash v))) (salted salt (pair_hash (hash l) (hash w))) (peak salt ps)
+      (λ a b. rw (hash-same k l a, hash-same v w b) refl) (is_pair_among-peak ps l w salt) h

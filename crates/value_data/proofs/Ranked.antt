@@ -16,9 +16,9 @@ use Rattle.value_data.specs.Inside.Held.{EntriesData, TableData}
 use Rattle.value_data.specs.Inside.Nodes.{KeepsPairs, seen_pairs, entry_pairs}
 use Rattle.value_data.proofs.Sameness.{size-pairs_of}
 use Rattle.value_data.specs.Same.{size}
-use Rattle.value_data.specs.Inside.Order.{SortKey, number, both, order, chain, sorted, rows, sort_key, items_sort_key}
+use Rattle.value_data.specs.Inside.Order.{SortKey, number, both, order, chain, sorted_keys, rows, sort_key, items_sort_key}
 use Rattle.value_data.specs.Inside.Index.{key_at, row_at, rows_at, ArePlaces, Indexes}
-use Rattle.value_data.proofs.Sorted.{IsIn, Ascends, ascending-same, sorted-ascends, sorted-in, in-sorted}
+use Rattle.value_data.proofs.Sorted.{IsIn, Ascends, ascending-same, sorted_keys-ascends, sorted_keys-in, in-sorted_keys}
 
 -- ---- two chains, in turn
 
@@ -178,19 +178,19 @@ each-ascends f (n ∷ ns) h = (
 in-range : (ns : List ℕ) (m : ℕ) → All (λ n. n < m) ns → (k : ℕ) → k < length ns → get_or ns k 0 < m
 in-range ns m h k l = h k 0 l
 
-pub index-rows : (ns : List ℕ) (ps : Pairs) → Indexes ns ps → chain (sorted (rows ps)) ≡ rows_at ps ns
+pub index-rows : (ns : List ℕ) (ps : Pairs) → Indexes ns ps → chain (sorted_keys (rows ps)) ≡ rows_at ps ns
 index-rows ns ps h =
     ap chain
-    (ascending-same (sorted (rows ps)) (each (row_at ps) ns) (sorted-ascends (rows ps))
+    (ascending-same (sorted_keys (rows ps)) (each (row_at ps) ns) (sorted_keys-ascends (rows ps))
     (each-ascends (row_at ps) ns
     (λ i j l k. row-Less ps (get_or ns i 0) (get_or ns j 0) (h.within i 0 (omega (arith, l, k))) (h.within j 0 k) (h.ascending i j l k)))
     (λ z i.
-    let r : (n : ℕ) × (n < size ps) × (z ≡ row_at ps n) = in-rows ps z (in-sorted (rows ps) z i) in
+    let r : (n : ℕ) × (n < size ps) × (z ≡ row_at ps n) = in-rows ps z (in-sorted_keys (rows ps) z i) in
     let c : Contains ns r.0 = h.complete r.0 r.1 in
     subst (λ w. IsIn w (each (row_at ps) ns)) (sym r.2) (in-each (row_at ps) ns c.0 r.0 c.1 c.2))
     (λ z i.
     let r : (k : ℕ) × (k < length ns) × (z ≡ row_at ps (get_or ns k 0)) = each-in (row_at ps) ns z i in
-    sorted-in (rows ps) z (subst (λ w. IsIn w (rows ps)) (sym r.2) (row-in ps (get_or ns r.0 0) (h.within r.0 0 r.1)))))
+    sorted_keys-in (rows ps) z (subst (λ w. IsIn w (rows ps)) (sym r.2) (row-in ps (get_or ns r.0 0) (h.within r.0 0 r.1)))))
 
 pub items-order : (xs ys : List Value)
     → order (chain (each (λ v. sort_key (view v)) xs)) (chain (each (λ v. sort_key (view v)) ys)) ≡ order (items_sort_key (items_view xs)) (items_sort_key (items_view ys))
@@ -200,12 +200,12 @@ pub two-open-at : (o p q r s : Ordering) → is_ne o ≡ false → o ≡ orderin
 two-open-at o p q r s h e f = f ∙ sym (two-open p q r (sym h ∙ ap is_ne e))
 
 pub node-rows : (n : PairsNode) (t : TableData) (e : EntriesData) (ns : List ℕ) → KeepsPairs n → seen_pairs n ≡ t → e ≡ n.entries → ns ≡ n.index
-    → rows_at (entry_pairs e) ns ≡ chain (sorted (rows t.pairs))
+    → rows_at (entry_pairs e) ns ≡ chain (sorted_keys (rows t.pairs))
 node-rows n t e ns keeps seen is f =
     ap (λ (d : EntriesData). rows_at (entry_pairs d) ns) is
     ∙ ap (λ (ms : List ℕ). rows_at (entry_pairs n.entries) ms) f
     ∙ sym (index-rows n.index (entry_pairs n.entries) keeps.indexed)
-    ∙ ap (λ (d : TableData). chain (sorted (rows d.pairs))) seen
+    ∙ ap (λ (d : TableData). chain (sorted_keys (rows d.pairs))) seen
 
 pub node-within : (n : PairsNode) (e : EntriesData) (ns : List ℕ) → KeepsPairs n → e ≡ n.entries → ns ≡ n.index → ArePlaces ns (length e.listed)
 node-within n e ns keeps is f =

@@ -3,7 +3,7 @@ use Rattle.std.proofs.Common.{◌≡◌, ◌⊎◌, inl, inr, List, [], ◌∷�
 use Rattle.std.specs.declared.cmp.Ordering.{Ordering}
 use Rattle.std.specs.declared.cmp.Ordering.TheVariants.{Less, Equal, Greater}
 use Rattle.std.specs.Ordering.{ordering_reverse, match_ordering}
-use Rattle.value_data.specs.Inside.Order.{SortKey, order, with_sort_key, sorted, chain}
+use Rattle.value_data.specs.Inside.Order.{SortKey, order, with_sort_key, sorted_keys, chain}
 use Rattle.value_data.proofs.Ordered.{order-reverse, order-exact, order-self, order-Less}
 
 abbrev pub IsIn : SortKey → List SortKey → Type 0
@@ -54,16 +54,16 @@ in-with_sort_key x (y ∷ ys) z h = at (in-with_sort_key x ys z) (order x y) h
     at more Greater (inl p) = inr (inl p)
     at more Greater (inr p) = later (more p)
 
-pub sorted-in : (xs : List SortKey) (z : SortKey) → IsIn z xs → IsIn z (sorted xs)
-sorted-in [] z h = h
-sorted-in (x ∷ xs) z (inl p) = with_sort_key-in x (sorted xs) z (inl p)
-sorted-in (x ∷ xs) z (inr p) = with_sort_key-in x (sorted xs) z (inr (sorted-in xs z p))
+pub sorted_keys-in : (xs : List SortKey) (z : SortKey) → IsIn z xs → IsIn z (sorted_keys xs)
+sorted_keys-in [] z h = h
+sorted_keys-in (x ∷ xs) z (inl p) = with_sort_key-in x (sorted_keys xs) z (inl p)
+sorted_keys-in (x ∷ xs) z (inr p) = with_sort_key-in x (sorted_keys xs) z (inr (sorted_keys-in xs z p))
 
-pub in-sorted : (xs : List SortKey) (z : SortKey) → IsIn z (sorted xs) → IsIn z xs
-in-sorted [] z h = h
-in-sorted (x ∷ xs) z h = at (in-sorted xs z) (in-with_sort_key x (sorted xs) z h)
+pub in-sorted_keys : (xs : List SortKey) (z : SortKey) → IsIn z (sorted_keys xs) → IsIn z xs
+in-sorted_keys [] z h = h
+in-sorted_keys (x ∷ xs) z h = at (in-sorted_keys xs z) (in-with_sort_key x (sorted_keys xs) z h)
   where
-    at : (IsIn z (sorted xs) → IsIn z xs) → (z ≡ x) ⊎ IsIn z (sorted xs) → (z ≡ x) ⊎ IsIn z xs
+    at : (IsIn z (sorted_keys xs) → IsIn z xs) → (z ≡ x) ⊎ IsIn z (sorted_keys xs) → (z ≡ x) ⊎ IsIn z xs
     at rest (inl p) = inl p
     at rest (inr p) = inr (rest p)
 
@@ -84,9 +84,9 @@ with_sort_key-ascends x (y ∷ ys) h = at (with_sort_key-ascends x ys h.1) (orde
     at more Equal e = h
     at more Greater e = (λ z i. after (order-Greater x y e) z (in-with_sort_key x ys z i), more)
 
-pub sorted-ascends : (xs : List SortKey) → Ascends (sorted xs)
-sorted-ascends [] = tt
-sorted-ascends (x ∷ xs) = with_sort_key-ascends x (sorted xs) (sorted-ascends xs)
+pub sorted_keys-ascends : (xs : List SortKey) → Ascends (sorted_keys xs)
+sorted_keys-ascends [] = tt
+sorted_keys-ascends (x ∷ xs) = with_sort_key-ascends x (sorted_keys xs) (sorted_keys-ascends xs)
 
 not-before : (x : SortKey) → order x x ≡ Less → ⊥
 not-before x h = let e : Equal ≡ Less = sym (order-self x) ∙ h in cc
@@ -120,10 +120,10 @@ ascending-same (x ∷ xs) (y ∷ ys) a b f g =
     (behind-first y ys xs b.0 (λ z h. subst (λ w. IsIn z (w ∷ xs)) e (g z h))))
 
 -- sorted lists with the same members are one
-pub sorted-same : (xs ys : List SortKey) → ((z : SortKey) → IsIn z xs → IsIn z ys) → ((z : SortKey) → IsIn z ys → IsIn z xs) → sorted xs ≡ sorted ys
-sorted-same xs ys f g =
-    ascending-same (sorted xs) (sorted ys) (sorted-ascends xs) (sorted-ascends ys)
-    (λ z h. sorted-in ys z (f z (in-sorted xs z h))) (λ z h. sorted-in xs z (g z (in-sorted ys z h)))
+pub sorted_keys-same : (xs ys : List SortKey) → ((z : SortKey) → IsIn z xs → IsIn z ys) → ((z : SortKey) → IsIn z ys → IsIn z xs) → sorted_keys xs ≡ sorted_keys ys
+sorted_keys-same xs ys f g =
+    ascending-same (sorted_keys xs) (sorted_keys ys) (sorted_keys-ascends xs) (sorted_keys-ascends ys)
+    (λ z h. sorted_keys-in ys z (f z (in-sorted_keys xs z h))) (λ z h. sorted_keys-in xs z (g z (in-sorted_keys ys z h)))
 
 chain-exact : (xs ys : List SortKey) → chain xs ≡ chain ys → xs ≡ ys
 chain-exact [] [] h = refl
@@ -134,5 +134,5 @@ chain-exact (x ∷ xs) (y ∷ ys) h =
     let f : chain xs ≡ chain ys = cc in
     rw (e, chain-exact xs ys f) refl
 
-pub same-members : (xs ys : List SortKey) → chain (sorted xs) ≡ chain (sorted ys) → (z : SortKey) → IsIn z xs → IsIn z ys
-same-members xs ys h z i = in-sorted ys z (subst (IsIn z) (chain-exact (sorted xs) (sorted ys) h) (sorted-in xs z i))
+pub same-members : (xs ys : List SortKey) → chain (sorted_keys xs) ≡ chain (sorted_keys ys) → (z : SortKey) → IsIn z xs → IsIn z ys
+same-members xs ys h z i = in-sorted_keys ys z (subst (IsIn z) (chain-exact (sorted_keys xs) (sorted_keys ys) h) (sorted_keys-in xs z i))

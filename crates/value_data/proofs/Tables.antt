@@ -5,7 +5,7 @@ use Rattle.std.proofs.Common.{add-one, refl, sym, ap, arith}
 use Rattle.std.specs.Prelude.{if◌then◌else◌}
 use Rattle.value_data.specs.Datum.{Datum, item, Pairs, no_pairs, pair}
 use Rattle.value_data.specs.Listed.{items_of, pairs_of}
-use Rattle.value_data.specs.Inside.Seen.{key_in, value_in}
+use Rattle.value_data.specs.Inside.Seen.{key_in, value_of_pair}
 use Rattle.value_data.specs.Same.{same}
 use Rattle.value_data.specs.Keyed.{value_under, has_key, keys_of, nth_value, value_at_place, behind_all}
 use Rattle.value_data.specs.Inside.Placed.{values_of}
@@ -116,11 +116,11 @@ pub keys-of-pairs : (qs : List (Datum × Datum)) → items_of (map key_in qs) �
 keys-of-pairs [] = refl
 keys-of-pairs (q ∷ qs) = ap (item q.0) (keys-of-pairs qs)
 
-pub values-of-pairs : (qs : List (Datum × Datum)) → items_of (map value_in qs) ≡ values_of (pairs_of qs)
+pub values-of-pairs : (qs : List (Datum × Datum)) → items_of (map value_of_pair qs) ≡ values_of (pairs_of qs)
 values-of-pairs [] = refl
 values-of-pairs (q ∷ qs) = ap (item q.1) (values-of-pairs qs)
 
-pub value-got : (qs : List (Datum × Datum)) (n : ℕ) (v : Datum) → v ≡ get_or (map value_in qs) n v → n < length qs → nth_value (pairs_of qs) n ≡ Some v
+pub value-got : (qs : List (Datum × Datum)) (n : ℕ) (v : Datum) → v ≡ get_or (map value_of_pair qs) n v → n < length qs → nth_value (pairs_of qs) n ≡ Some v
 value-got [] n v is h = absurd (omega (arith, h))
 value-got (q ∷ qs) zero v is h = ap Some (sym is)
 value-got (q ∷ qs) (suc n) v is h = value-got qs n v is (omega (arith, h))

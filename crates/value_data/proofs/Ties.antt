@@ -11,14 +11,14 @@ use Rattle.std.proofs.lemmas.Bool.{eqb-true}
 use Rattle.std.proofs.lemmas.Bool.Decides.{Decides-int_eq}
 use Rattle.std.proofs.lemmas.Slice.Eq.{bytes_eq-Decides}
 use Rattle.value_data.specs.Datum.{OwnerData, shared, tenant, Datum, nil, boolean, integer, string, keyword, symbol, list, vector, map, ref, atom, agent, var, fault, Items, no_items, item, Pairs, no_pairs, pair}
-use Rattle.value_data.specs.Same.{same, same_owner, same_items, size, within, each_pair, is_among, has_pair}
+use Rattle.value_data.specs.Same.{same, same_owner, same_items, size, within, each_pair, is_pair_among, has_pair}
 use Rattle.value_data.specs.Inside.Hash.{hash}
-use Rattle.value_data.specs.Inside.Order.{SortKey, number, text, both, order, sorted, chain, sort_key, items_sort_key, owner_sort_key, kind, rows}
+use Rattle.value_data.specs.Inside.Order.{SortKey, number, text, both, order, sorted_keys, chain, sort_key, items_sort_key, owner_sort_key, kind, rows}
 use Rattle.value_data.proofs.Equivalence.{and-left, and-right, and-both, or-right, head-both}
 use Rattle.value_data.proofs.Transitive.{is_leaf, leaf-is}
 use Rattle.value_data.proofs.Hashes.{hash-same, items-hash-same}
 use Rattle.value_data.proofs.Ordered.{order-exact, order-self}
-use Rattle.value_data.proofs.Sorted.{IsIn, sorted-same, same-members}
+use Rattle.value_data.proofs.Sorted.{IsIn, sorted_keys-same, same-members}
 
 -- a pair that passes has a row with the same keys
 has_pair-row : (kk kv : SortKey) (key value : Datum → Bool) → ((e : Datum) → key e ≡ true → kk ≡ sort_key e) → ((e : Datum) → value e ≡ true → kv ≡ sort_key e)
@@ -79,12 +79,12 @@ mutual
   same-key (vector ds) (list es) h = lists-key _ _ _ _ (items-hash-same ds es 7 h) (same-items-key ds es h)
   same-key (vector ds) (vector es) h = lists-key _ _ _ _ (items-hash-same ds es 7 h) (same-items-key ds es h)
   same-key (map ps) (map qs) h =
-      let found : (within ps qs && each_pair (is_among ps) qs) ≡ true = and-right (size ps == size qs) (within ps qs && each_pair (is_among ps) qs) h in
-      maps-key (hash (map ps)) (hash (map qs)) (size ps) (size qs) (sorted (rows ps)) (sorted (rows qs)) (hash-same (map ps) (map qs) h)
-      (eqb-true (size ps) (size qs) (and-left (size ps == size qs) (within ps qs && each_pair (is_among ps) qs) h))
-      (sorted-same (rows ps) (rows qs)
-      (λ z i. within-rows ps qs (and-left (within ps qs) (each_pair (is_among ps) qs) found) z i)
-      (each_pair-row (is_among ps) (rows ps) (λ l w. is_among-row ps l w) qs (and-right (within ps qs) (each_pair (is_among ps) qs) found)))
+      let found : (within ps qs && each_pair (is_pair_among ps) qs) ≡ true = and-right (size ps == size qs) (within ps qs && each_pair (is_pair_among ps) qs) h in
+      maps-key (hash (map ps)) (hash (map qs)) (size ps) (size qs) (sorted_keys (rows ps)) (sorted_keys (rows qs)) (hash-same (map ps) (map qs) h)
+      (eqb-true (size ps) (size qs) (and-left (size ps == size qs) (within ps qs && each_pair (is_pair_among ps) qs) h))
+      (sorted_keys-same (rows ps) (rows qs)
+      (λ z i. within-rows ps qs (and-left (within ps qs) (each_pair (is_pair_among ps) qs) found) z i)
+      (each_pair-row (is_pair_among ps) (rows ps) (λ l w. is_pair_among-row ps l w) qs (and-right (within ps qs) (each_pair (is_pair_among ps) qs) found)))
   same-key (list ds) e h = absurd (cc)
   same-key (vector ds) e h = absurd (cc)
   same-key (map ps) e h = absurd (cc)
@@ -104,10 +104,10 @@ mutual
       (has_pair-row (sort_key k) (sort_key v) (same k) (same v) (same-key k) (same-key v) qs (and-left (has_pair (same k) (same v) qs) (within ps qs) h))
       (within-rows ps qs (and-right (has_pair (same k) (same v) qs) (within ps qs) h) z) i
 
-  is_among-row : (ps : Pairs) (l w : Datum) → is_among ps l w ≡ true → IsIn (both (sort_key l) (sort_key w)) (rows ps)
-  is_among-row no_pairs l w h = absurd (cc)
-  is_among-row (pair k v ps) l w h =
-      among-cases k v l w (rows ps) (is_among ps l w) (same-key k l) (same-key v w) (is_among-row ps l w) h
+  is_pair_among-row : (ps : Pairs) (l w : Datum) → is_pair_among ps l w ≡ true → IsIn (both (sort_key l) (sort_key w)) (rows ps)
+  is_pair_among-row no_pairs l w h = absurd (cc)
+  is_pair_among-row (pair k v ps) l w h =
+      among-cases k v l w (rows ps) (is_pair_among ps l w) (same-key k l) (same-key v w) (is_pair_among-row ps l w) h
 
 -- ---- and back
 
@@ -162,11 +162,11 @@ seconds : (a b c d : SortKey) → both a b ≡ both c d → b ≡ d
 seconds a b c d h = cc
 
 among-back : (k v l w : Datum) (ps : Pairs) → (sort_key k ≡ sort_key l → same k l ≡ true) → (sort_key v ≡ sort_key w → same v w ≡ true)
-    → (IsIn (both (sort_key l) (sort_key w)) (rows ps) → is_among ps l w ≡ true) → IsIn (both (sort_key l) (sort_key w)) (rows (pair k v ps))
-    → ((same k l && same v w) || is_among ps l w) ≡ true
+    → (IsIn (both (sort_key l) (sort_key w)) (rows ps) → is_pair_among ps l w ≡ true) → IsIn (both (sort_key l) (sort_key w)) (rows (pair k v ps))
+    → ((same k l && same v w) || is_pair_among ps l w) ≡ true
 among-back k v l w ps f g more (inl p) =
-    head-both (same k l) (same v w) (is_among ps l w) (f (sym (firsts _ _ _ _ p))) (g (sym (seconds _ _ _ _ p)))
-among-back k v l w ps f g more (inr p) = or-right (same k l && same v w) (is_among ps l w) (more p)
+    head-both (same k l) (same v w) (is_pair_among ps l w) (f (sym (firsts _ _ _ _ p))) (g (sym (seconds _ _ _ _ p)))
+among-back k v l w ps f g more (inr p) = or-right (same k l && same v w) (is_pair_among ps l w) (more p)
 
 mutual
   pub key-same : (d e : Datum) → sort_key d ≡ sort_key e → same d e ≡ true
@@ -181,13 +181,13 @@ mutual
   key-same (vector ds) (list es) h = items-same ds es (seconds _ _ _ _ (inside _ _ _ _ h))
   key-same (vector ds) (vector es) h = items-same ds es (seconds _ _ _ _ (inside _ _ _ _ h))
   key-same (map ps) (map qs) h =
-      let parts : both (number (size ps)) (chain (sorted (rows ps))) ≡ both (number (size qs)) (chain (sorted (rows qs))) = seconds _ _ _ _ (inside _ _ _ _ h) in
+      let parts : both (number (size ps)) (chain (sorted_keys (rows ps))) ≡ both (number (size qs)) (chain (sorted_keys (rows qs))) = seconds _ _ _ _ (inside _ _ _ _ h) in
       let sizes : size ps ≡ size qs = kinds _ _ _ _ parts in
-      let chains : chain (sorted (rows ps)) ≡ chain (sorted (rows qs)) = seconds _ _ _ _ parts in
-      and-both (size ps == size qs) (within ps qs && each_pair (is_among ps) qs) (eq-eqb (size ps) (size qs) sizes)
-      (and-both (within ps qs) (each_pair (is_among ps) qs)
+      let chains : chain (sorted_keys (rows ps)) ≡ chain (sorted_keys (rows qs)) = seconds _ _ _ _ parts in
+      and-both (size ps == size qs) (within ps qs && each_pair (is_pair_among ps) qs) (eq-eqb (size ps) (size qs) sizes)
+      (and-both (within ps qs) (each_pair (is_pair_among ps) qs)
       (rows-within ps qs (same-members (rows ps) (rows qs) chains))
-      (each-of-rows (is_among ps) (rows ps) (λ l w i. row-among ps l w i) qs (same-members (rows qs) (rows ps) (sym chains))))
+      (each-of-rows (is_pair_among ps) (rows ps) (λ l w i. row-among ps l w i) qs (same-members (rows qs) (rows ps) (sym chains))))
   key-same (ref o m) (ref p n) h =
       let parts : both (owner_sort_key o) (number m) ≡ both (owner_sort_key p) (number n) = inside _ _ _ _ h in
       let e : m ≡ n = cc in
@@ -218,7 +218,7 @@ mutual
       (pair-of-row k v (same k) (same v) (key-same k) (key-same v) qs (h (both (sort_key k) (sort_key v)) (inl refl)))
       (rows-within ps qs (λ z i. h z (inr i)))
 
-  row-among : (ps : Pairs) (l w : Datum) → IsIn (both (sort_key l) (sort_key w)) (rows ps) → is_among ps l w ≡ true
+  row-among : (ps : Pairs) (l w : Datum) → IsIn (both (sort_key l) (sort_key w)) (rows ps) → is_pair_among ps l w ≡ true
   row-among no_pairs l w i = absurd i
   row-among (pair k v ps) l w i = among-back k v l w ps (key-same k l) (key-same v w) (row-among ps l w) i
 

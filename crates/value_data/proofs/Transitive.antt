@@ -6,7 +6,7 @@ use Rattle.std.proofs.lemmas.Bool.{eqb-true}
 use Rattle.std.proofs.lemmas.Bool.Decides.{Decides-int_eq}
 use Rattle.std.proofs.lemmas.Slice.Eq.{bytes_eq-Decides}
 use Rattle.value_data.specs.Datum.{OwnerData, shared, tenant, Datum, nil, boolean, integer, string, keyword, symbol, list, vector, map, ref, atom, agent, var, fault, Items, no_items, item, Pairs, no_pairs, pair}
-use Rattle.value_data.specs.Same.{same, same_owner, same_items, size, within, each_pair, is_among, has_pair}
+use Rattle.value_data.specs.Same.{same, same_owner, same_items, size, within, each_pair, is_pair_among, has_pair}
 use Rattle.value_data.proofs.Equivalence.{and-left, and-right, and-both, or-right, or-cases, head-both, each_pair-imp, has_pair-imp}
 
 -- no list, vector or map
@@ -73,13 +73,13 @@ has_pair-within key value f g (pair l w qs) rs h i =
     h
 
 -- the same for the other direction: a pair among those that stand among others
-is_among-each : (test : Datum → Datum → Bool) (m x : Datum) → ((l w : Datum) → test l w ≡ true → same l m ≡ true → same w x ≡ true → test m x ≡ true)
-    → (qs : Pairs) → is_among qs m x ≡ true → each_pair test qs ≡ true → test m x ≡ true
-is_among-each test m x f no_pairs h i = absurd (cc)
-is_among-each test m x f (pair l w qs) h i =
-    or-cases (same l m && same w x) (is_among qs m x) (test m x)
+is_pair_among-each : (test : Datum → Datum → Bool) (m x : Datum) → ((l w : Datum) → test l w ≡ true → same l m ≡ true → same w x ≡ true → test m x ≡ true)
+    → (qs : Pairs) → is_pair_among qs m x ≡ true → each_pair test qs ≡ true → test m x ≡ true
+is_pair_among-each test m x f no_pairs h i = absurd (cc)
+is_pair_among-each test m x f (pair l w qs) h i =
+    or-cases (same l m && same w x) (is_pair_among qs m x) (test m x)
     (λ a. f l w (and-left (test l w) (each_pair test qs) i) (and-left (same l m) (same w x) a) (and-right (same l m) (same w x) a))
-    (λ b. is_among-each test m x f qs b (and-right (test l w) (each_pair test qs) i))
+    (λ b. is_pair_among-each test m x f qs b (and-right (test l w) (each_pair test qs) i))
     h
 
 -- lists, where their items are transitive
@@ -92,20 +92,20 @@ list-trans ds items e f h i =
 
 -- maps, where their pairs are transitive
 module _ (ps : Pairs) (inside : (qs rs : Pairs) → within ps qs ≡ true → within qs rs ≡ true → within ps rs ≡ true)
-    (among : (l w m x : Datum) → is_among ps l w ≡ true → same l m ≡ true → same w x ≡ true → is_among ps m x ≡ true) where
+    (among : (l w m x : Datum) → is_pair_among ps l w ≡ true → same l m ≡ true → same w x ≡ true → is_pair_among ps m x ≡ true) where
   pairs-trans : (qs rs : Pairs) → same (map ps) (map qs) ≡ true → same (map qs) (map rs) ≡ true → same (map ps) (map rs) ≡ true
   pairs-trans qs rs h i =
-      let ours : (within ps qs && each_pair (is_among ps) qs) ≡ true = and-right (size ps == size qs) (within ps qs && each_pair (is_among ps) qs) h in
-      let theirs : (within qs rs && each_pair (is_among qs) rs) ≡ true = and-right (size qs == size rs) (within qs rs && each_pair (is_among qs) rs) i in
-      and-both (size ps == size rs) (within ps rs && each_pair (is_among ps) rs)
+      let ours : (within ps qs && each_pair (is_pair_among ps) qs) ≡ true = and-right (size ps == size qs) (within ps qs && each_pair (is_pair_among ps) qs) h in
+      let theirs : (within qs rs && each_pair (is_pair_among qs) rs) ≡ true = and-right (size qs == size rs) (within qs rs && each_pair (is_pair_among qs) rs) i in
+      and-both (size ps == size rs) (within ps rs && each_pair (is_pair_among ps) rs)
       (eq-eqb (size ps) (size rs)
-      (eqb-true (size ps) (size qs) (and-left (size ps == size qs) (within ps qs && each_pair (is_among ps) qs) h)
-      ∙ eqb-true (size qs) (size rs) (and-left (size qs == size rs) (within qs rs && each_pair (is_among qs) rs) i)))
-      (and-both (within ps rs) (each_pair (is_among ps) rs)
-      (inside qs rs (and-left (within ps qs) (each_pair (is_among ps) qs) ours) (and-left (within qs rs) (each_pair (is_among qs) rs) theirs))
-      (each_pair-imp (is_among qs) (is_among ps)
-      (λ m x a. is_among-each (is_among ps) m x (λ l w b k v. among l w m x b k v) qs a (and-right (within ps qs) (each_pair (is_among ps) qs) ours))
-      rs (and-right (within qs rs) (each_pair (is_among qs) rs) theirs)))
+      (eqb-true (size ps) (size qs) (and-left (size ps == size qs) (within ps qs && each_pair (is_pair_among ps) qs) h)
+      ∙ eqb-true (size qs) (size rs) (and-left (size qs == size rs) (within qs rs && each_pair (is_pair_among qs) rs) i)))
+      (and-both (within ps rs) (each_pair (is_pair_among ps) rs)
+      (inside qs rs (and-left (within ps qs) (each_pair (is_pair_among ps) qs) ours) (and-left (within qs rs) (each_pair (is_pair_among qs) rs) theirs))
+      (each_pair-imp (is_pair_among qs) (is_pair_among ps)
+      (λ m x a. is_pair_among-each (is_pair_among ps) m x (λ l w b k v. among l w m x b k v) qs a (and-right (within ps qs) (each_pair (is_pair_among ps) qs) ours))
+      rs (and-right (within qs rs) (each_pair (is_pair_among qs) rs) theirs)))
 
   map-trans : (e f : Datum) → same (map ps) e ≡ true → same e f ≡ true → same (map ps) f ≡ true
   map-trans e f h i =
@@ -119,7 +119,7 @@ mutual
   pub same-trans : (d e f : Datum) → same d e ≡ true → same e f ≡ true → same d f ≡ true
   same-trans (list ds) e f h i = list-trans ds (items-trans ds) e f h i
   same-trans (vector ds) e f h i = vector-as-list ds f ∙ list-trans ds (items-trans ds) e f (sym (vector-as-list ds e) ∙ h) i
-  same-trans (map ps) e f h i = map-trans ps (within-trans ps) (is_among-trans ps) e f h i
+  same-trans (map ps) e f h i = map-trans ps (within-trans ps) (is_pair_among-trans ps) e f h i
   same-trans d e f h i = subst (λ (x : Datum). same x f ≡ true) (sym (leaf-is d e refl h)) i
 
   items-trans : (ds es fs : Items) → same_items ds es ≡ true → same_items es fs ≡ true → same_items ds fs ≡ true
@@ -139,11 +139,11 @@ mutual
       (has_pair-within (same k) (same v) (λ l e. same-trans k l e) (λ w e. same-trans v w e) qs rs (and-left (has_pair (same k) (same v) qs) (within ps qs) h) i)
       (within-trans ps qs rs (and-right (has_pair (same k) (same v) qs) (within ps qs) h) i)
 
-  is_among-trans : (ps : Pairs) (l w m x : Datum) → is_among ps l w ≡ true → same l m ≡ true → same w x ≡ true → is_among ps m x ≡ true
-  is_among-trans no_pairs l w m x h a b = h
-  is_among-trans (pair k v ps) l w m x h a b =
-      or-cases (same k l && same v w) (is_among ps l w) ((same k m && same v x) || is_among ps m x)
-      (λ t. head-both (same k m) (same v x) (is_among ps m x)
+  is_pair_among-trans : (ps : Pairs) (l w m x : Datum) → is_pair_among ps l w ≡ true → same l m ≡ true → same w x ≡ true → is_pair_among ps m x ≡ true
+  is_pair_among-trans no_pairs l w m x h a b = h
+  is_pair_among-trans (pair k v ps) l w m x h a b =
+      or-cases (same k l && same v w) (is_pair_among ps l w) ((same k m && same v x) || is_pair_among ps m x)
+      (λ t. head-both (same k m) (same v x) (is_pair_among ps m x)
       (same-trans k l m (and-left (same k l) (same v w) t) a) (same-trans v w x (and-right (same k l) (same v w) t) b))
-      (λ t. or-right (same k m && same v x) (is_among ps m x) (is_among-trans ps l w m x t a b))
+      (λ t. or-right (same k m && same v x) (is_pair_among ps m x) (is_pair_among-trans ps l w m x t a b))
       h

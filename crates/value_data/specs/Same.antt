@@ -40,7 +40,7 @@ abbrev mutual
   same (list ds) (vector es) = same_items ds es
   same (vector ds) (list es) = same_items ds es
   same (vector ds) (vector es) = same_items ds es
-  same (map ps) (map qs) = size ps == size qs && (within ps qs && each_pair (is_among ps) qs)
+  same (map ps) (map qs) = size ps == size qs && (within ps qs && each_pair (is_pair_among ps) qs)
   same (ref o m) (ref p n) = same_owner o p && m == n
   same (atom m) (atom n) = m == n
   same (agent m) (agent n) = m == n
@@ -59,6 +59,6 @@ abbrev mutual
   within (pair k v ps) qs = has_pair (same k) (same v) qs && within ps qs
 
   -- one of the pairs has this key and this value
-  pub is_among : Pairs → Datum → Datum → Bool
-  is_among no_pairs l w = false
-  is_among (pair k v ps) l w = (same k l && same v w) || is_among ps l w
+  pub is_pair_among : Pairs → Datum → Datum → Bool
+  is_pair_among no_pairs l w = false
+  is_pair_among (pair k v ps) l w = (same k l && same v w) || is_pair_among ps l w

@@ -9,13 +9,13 @@ ghost use Rattle.value_data.specs.Inside.Changes.{changed, HasPlace};
 use crate::copies::share_items;
 use crate::forks::{LEAF, MOST, fork, leaf, single};
 use crate::node_measures::{ItemsMeasure, measure_of};
-use crate::value::{ItemsNode, Shape, Tree, Value};
+use crate::value::{ItemsNode, ItemsShape, ItemsTree, Value};
 use std::alloc::{AllocError, Global};
 use std::sync::Arc;
 
 // What is done at a place.
 #[derive(Drop)]
-pub(crate) enum Change {
+pub(crate) enum ItemChange {
     Insert(Value),
     Replace(Value),
     Remove,
@@ -26,7 +26,7 @@ pub(crate) fn change_items(
     items: &mut Vec<Value>,
     measure: ItemsMeasure,
     place: usize,
-    change: Change,
+    change: ItemChange,
 ) -> Result<ItemsMeasure, AllocError>
     requires measured { FitsItems measure (views items.old.items) }
     requires in_range { HasPlace change place (length items.old.items) }
@@ -36,7 +36,7 @@ pub(crate) fn change_items(
         else views items.old.items) }
 {
     match change {
-        Change::Insert(value) => {
+        ItemChange::Insert(value) => {
             let more = ItemsMeasure::of_one(&value);
             let count = items.len();
             items.insert(place, value)?;
@@ -48,25 +48,25 @@ pub(crate) fn change_items(
                 Ok(measure_of(items))
             }
         }
-        Change::Replace(value) => {
+        ItemChange::Replace(value) => {
             items[place] = value;
             Ok(measure_of(items))
         }
-        Change::Remove => {
+        ItemChange::Remove => {
             let _taken = items.remove(place);
             Ok(measure_of(items))
         }
     }
 }
 
-impl Change {
+impl ItemChange {
     // Whether a change at the place is one of the first so many items.
     fn goes_left(&self, place: usize, count: usize) -> bool
         ensures left { result ≡ true → HasPlace self.now place count }
         ensures right { result ≡ false → count ≤ place }
     {
         match self {
-            Change::Insert(_) => place <= count,
+            ItemChange::Insert(_) => place <= count,
             _ => place < count,
         }
     }
@@ -78,7 +78,7 @@ fn change_node(
     node: &mut ItemsNode,
     alloc: Global,
     place: usize,
-    change: Change,
+    change: ItemChange,
 ) -> Result<(), AllocError>
     requires kept { KeepsItems node.old }
     requires in_range { HasPlace change place (length (shown node.old.shape)) }
@@ -91,12 +91,12 @@ fn change_node(
         return Err(AllocError);
     }
     match &mut node.shape {
-        Shape::Leaf(items) => {
+        ItemsShape::Leaf(items) => {
             node.measure = change_items(items, node.measure, place, change)?;
             node.len = items.len();
             Ok(())
         }
-        Shape::Fork(left, right) => {
+        ItemsShape::Fork(left, right) => {
             let before = left.len();
             if change.goes_left(place, before) {
                 left.change(alloc, place, change)?;
@@ -111,14 +111,14 @@ fn change_node(
     }
 }
 
-impl Tree {
+impl ItemsTree {
     // Does the change. After an error the items are as they were.
     #[cycle(change)]
     pub(crate) fn change(
         &mut self,
         alloc: Global,
         place: usize,
-        change: Change,
+        change: ItemChange,
     ) -> Result<(), AllocError>
         requires in_range { HasPlace change place (length self.old.items) }
         ensures { self.new.items ≡ (if is_ok result
@@ -126,15 +126,19 @@ impl Tree {
             else self.old.items) }
     {
         match change {
-            Change::Insert(value) => {
+            ItemChange::Insert(value) => {
                 let Some(items) = self.full_leaf() else {
-                    return self.change_owned(alloc, place, Change::Insert(value));
+                    return self.change_owned(alloc, place, ItemChange::Insert(value));
                 };
                 *self = widened(alloc, self, items, place, value)?;
                 Ok(())
             }
-            Change::Replace(value) => self.change_owned(alloc, place, Change::Replace(value)),
-            Change::Remove => self.change_owned(alloc, place, Change::Remove),
+            ItemChange::Replace(value) => self.change_owned(
+                alloc,
+                place,
+                ItemChange::Replace(value),
+            ),
+            ItemChange::Remove => self.change_owned(alloc, place, ItemChange::Remove),
         }
     }
 
@@ -143,7 +147,7 @@ impl Tree {
         &mut self,
         alloc: Global,
         place: usize,
-        change: Change,
+        change: ItemChange,
     ) -> Result<(), AllocError>
         requires in_range { HasPlace change place (length self.old.items) }
         ensures { self.new.items ≡ (if is_ok result
@@ -164,7 +168,7 @@ impl Tree {
         ensures { IfSome result (λ items. views items.now ≡ self.now.items) }
     {
         match &self.node.shape {
-            Shape::Leaf(items) if items.len() >= LEAF => Some(items),
+            ItemsShape::Leaf(items) if items.len() >= LEAF => Some(items),
             _ => None,
         }
     }
@@ -174,11 +178,11 @@ impl Tree {
 // leaf is shared.
 fn widened(
     alloc: Global,
-    full: &Tree,
+    full: &ItemsTree,
     items: &[Value],
     place: usize,
     value: Value,
-) -> Result<Tree, AllocError>
+) -> Result<ItemsTree, AllocError>
     requires same { views items.now ≡ full.now.items }
     requires in_range { place ≤ length items.now }
     ensures { IfOk result (λ made. made.items ≡ insert full.now.items place (view value)) }

@@ -8,7 +8,7 @@ ghost use Rattle.value_data.specs.Listed.{items_of};
 ghost use Rattle.value_data.specs.Measures.{capped, pairs_weight, pairs_nesting, pairs_are_plain};
 ghost use Rattle.value_data.specs.Inside.Nodes.{entry_pairs};
 ghost use Rattle.value_data.specs.Inside.View.{view, pair_view};
-ghost use Rattle.value_data.specs.Inside.Seen.{entry_view, key_in, value_in};
+ghost use Rattle.value_data.specs.Inside.Seen.{entry_view, key_in, value_of_pair};
 
 use crate::node_measures::both;
 use crate::value::{Entries, Sequence, Value};
@@ -58,7 +58,7 @@ impl Entries {
 
     // The values in the order of their keys.
     pub(crate) fn values(&self) -> &Sequence
-        ensures { result.now.items ≡ items_of (map value_in self.now.listed) }
+        ensures { result.now.items ≡ items_of (map value_of_pair self.now.listed) }
     {
         &self.values
     }
@@ -75,7 +75,7 @@ impl Entries {
     // The value at a place that is one.
     pub(crate) fn value(&self, place: usize) -> &Value
         requires { place < length self.now.listed }
-        ensures { view result.now ≡ slice_index_or (map value_in self.now.listed) place
+        ensures { view result.now ≡ slice_index_or (map value_of_pair self.now.listed) place
             (view result.now) }
     {
         self.values.at(place)

@@ -4,7 +4,7 @@ ghost use Rattle.value_data.specs.Inside.View.{view, views};
 
 use crate::copies::share_both;
 use crate::node_measures::measure_of;
-use crate::value::{ItemsNode, Shape, Tree, Value};
+use crate::value::{ItemsNode, ItemsShape, ItemsTree, Value};
 use std::alloc::{AllocError, Global};
 use std::sync::Arc;
 
@@ -14,9 +14,9 @@ pub(crate) const LEAF: usize = 32;
 // How many items there are at most: as many as a vector may have.
 pub(crate) const MOST: usize = 0x7FFF_FFFF_FFFF_FFFF;
 
-impl Tree {
+impl ItemsTree {
     /// No items.
-    pub(crate) fn empty(alloc: Global) -> Result<Tree, AllocError>
+    pub(crate) fn empty(alloc: Global) -> Result<ItemsTree, AllocError>
         ensures { IfOk result (λ made. made.items ≡ []) }
     {
         leaf(alloc, Vec::new(alloc))
@@ -24,7 +24,7 @@ impl Tree {
 }
 
 // A leaf of these items.
-pub(crate) fn leaf(alloc: Global, items: Vec<Value>) -> Result<Tree, AllocError>
+pub(crate) fn leaf(alloc: Global, items: Vec<Value>) -> Result<ItemsTree, AllocError>
     ensures { IfOk result (λ made. made.items ≡ views items.items) }
 {
     let measure = measure_of(&items);
@@ -32,14 +32,14 @@ pub(crate) fn leaf(alloc: Global, items: Vec<Value>) -> Result<Tree, AllocError>
         len: items.len(),
         height: 0,
         measure,
-        shape: Shape::Leaf(items),
+        shape: ItemsShape::Leaf(items),
     };
     let node = Arc::new(alloc, node)?;
-    Ok(Tree { node })
+    Ok(ItemsTree { node })
 }
 
 // A leaf of one item.
-pub(crate) fn single(alloc: Global, item: Value) -> Result<Tree, AllocError>
+pub(crate) fn single(alloc: Global, item: Value) -> Result<ItemsTree, AllocError>
     ensures { IfOk result (λ made. made.items ≡ view item ∷ []) }
 {
     let mut items = Vec::new(alloc);
@@ -48,7 +48,11 @@ pub(crate) fn single(alloc: Global, item: Value) -> Result<Tree, AllocError>
 }
 
 // The items of two trees. It fails for want of memory, or where there would be 2^63 items.
-pub(crate) fn fork(alloc: Global, left: Tree, right: Tree) -> Result<Tree, AllocError>
+pub(crate) fn fork(
+    alloc: Global,
+    left: ItemsTree,
+    right: ItemsTree,
+) -> Result<ItemsTree, AllocError>
     ensures { IfOk result (λ made. made.items ≡ left.items ++ right.items) }
 {
     let len = left.len() + right.len();
@@ -61,25 +65,25 @@ pub(crate) fn fork(alloc: Global, left: Tree, right: Tree) -> Result<Tree, Alloc
         len,
         height,
         measure,
-        shape: Shape::Fork(left, right),
+        shape: ItemsShape::Fork(left, right),
     };
     let node = Arc::new(alloc, node)?;
-    Ok(Tree { node })
+    Ok(ItemsTree { node })
 }
 
 // The items of both, in one leaf, where both are small leaves.
 pub(crate) fn merged(
     alloc: Global,
-    left: &Tree,
-    right: &Tree,
+    left: &ItemsTree,
+    right: &ItemsTree,
     most: usize,
-) -> Result<Option<Tree>, AllocError>
+) -> Result<Option<ItemsTree>, AllocError>
     ensures { IfOk result (λ found. IfSome found (λ made. made.items ≡ left.now.items ++ right.now.items)) }
 {
-    let Shape::Leaf(first) = &left.node.shape else {
+    let ItemsShape::Leaf(first) = &left.node.shape else {
         return Ok(None);
     };
-    let Shape::Leaf(second) = &right.node.shape else {
+    let ItemsShape::Leaf(second) = &right.node.shape else {
         return Ok(None);
     };
     if first.len().saturating_add(second.len()) > most {
@@ -91,7 +95,11 @@ pub(crate) fn merged(
 
 // The items of two trees in forks that are less out of balance. It fails for want of memory, or
 // where there would be 2^63 items.
-pub(crate) fn balanced(alloc: Global, left: &Tree, right: &Tree) -> Result<Tree, AllocError>
+pub(crate) fn balanced(
+    alloc: Global,
+    left: &ItemsTree,
+    right: &ItemsTree,
+) -> Result<ItemsTree, AllocError>
     ensures { IfOk result (λ made. made.items ≡ left.now.items ++ right.now.items) }
 {
     if left.height() > right.height().saturating_add(1) {
@@ -104,14 +112,14 @@ pub(crate) fn balanced(alloc: Global, left: &Tree, right: &Tree) -> Result<Tree,
 }
 
 // The same where the left tree is the higher one.
-fn lean_right(alloc: Global, left: &Tree, right: &Tree) -> Result<Tree, AllocError>
+fn lean_right(alloc: Global, left: &ItemsTree, right: &ItemsTree) -> Result<ItemsTree, AllocError>
     ensures { IfOk result (λ made. made.items ≡ left.now.items ++ right.now.items) }
 {
-    let Shape::Fork(a, b) = &left.node.shape else {
+    let ItemsShape::Fork(a, b) = &left.node.shape else {
         return fork(alloc, left.copy()?, right.copy()?);
     };
     if a.height() < b.height() {
-        if let Shape::Fork(c, d) = &b.node.shape {
+        if let ItemsShape::Fork(c, d) = &b.node.shape {
             let first = fork(alloc, a.copy()?, c.copy()?)?;
             let second = fork(alloc, d.copy()?, right.copy()?)?;
             return fork(alloc, first, second);
@@ -122,14 +130,14 @@ fn lean_right(alloc: Global, left: &Tree, right: &Tree) -> Result<Tree, AllocErr
 }
 
 // The same where the right tree is the higher one.
-fn lean_left(alloc: Global, left: &Tree, right: &Tree) -> Result<Tree, AllocError>
+fn lean_left(alloc: Global, left: &ItemsTree, right: &ItemsTree) -> Result<ItemsTree, AllocError>
     ensures { IfOk result (λ made. made.items ≡ left.now.items ++ right.now.items) }
 {
-    let Shape::Fork(a, b) = &right.node.shape else {
+    let ItemsShape::Fork(a, b) = &right.node.shape else {
         return fork(alloc, left.copy()?, right.copy()?);
     };
     if b.height() < a.height() {
-        if let Shape::Fork(c, d) = &a.node.shape {
+        if let ItemsShape::Fork(c, d) = &a.node.shape {
             let first = fork(alloc, left.copy()?, c.copy()?)?;
             let second = fork(alloc, d.copy()?, b.copy()?)?;
             return fork(alloc, first, second);
@@ -139,7 +147,7 @@ fn lean_left(alloc: Global, left: &Tree, right: &Tree) -> Result<Tree, AllocErro
     fork(alloc, first, b.copy()?)
 }
 
-impl Tree {
+impl ItemsTree {
     // Forks anew what is out of balance, and forgets an empty side. Where there is no memory for
     // that the tree stays as it is.
     pub(crate) fn settle(&mut self, alloc: Global)
@@ -150,10 +158,10 @@ impl Tree {
         }
     }
 
-    fn better(&self, alloc: Global) -> Result<Option<Tree>, AllocError>
+    fn better(&self, alloc: Global) -> Result<Option<ItemsTree>, AllocError>
         ensures { IfOk result (λ found. IfSome found (λ made. made.items ≡ self.now.items)) }
     {
-        let Shape::Fork(left, right) = &self.node.shape else {
+        let ItemsShape::Fork(left, right) = &self.node.shape else {
             return Ok(None);
         };
         if left.is_empty() {

@@ -8,7 +8,7 @@ ghost use Rattle.value_data.specs.Inside.View.{view, items_view, owner_view};
 ghost use Rattle.value_data.specs.Inside.Nodes.{entry_pairs};
 ghost use Rattle.value_data.specs.Same.{size};
 ghost use Rattle.value_data.specs.Inside.Order.{text, both, number, order, sort_key, content, kind};
-ghost use Rattle.value_data.specs.Inside.Order.{items_sort_key, owner_sort_key, chain, sorted};
+ghost use Rattle.value_data.specs.Inside.Order.{items_sort_key, owner_sort_key, chain, sorted_keys};
 ghost use Rattle.value_data.specs.Inside.Order.{rows};
 ghost use Rattle.value_data.specs.Inside.Index.{rows_at, ArePlaces};
 

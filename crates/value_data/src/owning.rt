@@ -3,16 +3,16 @@ ghost use Rattle.std.specs.Prelude.{◌≡◌, IfOk};
 ghost use Rattle.value_data.specs.Inside.Nodes.{seen, shown, held, KeepsItems};
 
 use crate::copies::share_items;
-use crate::value::{ItemsNode, Shape, Tree};
+use crate::value::{ItemsNode, ItemsShape, ItemsTree};
 use std::alloc::{AllocError, Global};
 use std::sync::Arc;
 
-impl Tree {
+impl ItemsTree {
     // The same items, in one step and with no memory. It fails only where 2^63 owners share them.
-    pub(crate) fn copy(&self) -> Result<Tree, AllocError>
+    pub(crate) fn copy(&self) -> Result<ItemsTree, AllocError>
         ensures { IfOk result (λ copied. copied ≡ self.now) }
     {
-        Ok(Tree {
+        Ok(ItemsTree {
             node: Arc::try_clone(&self.node)?,
         })
     }
@@ -42,12 +42,12 @@ fn copy_node(alloc: Global, node: &ItemsNode) -> Result<ItemsNode, AllocError>
     })
 }
 
-fn copy_shape(alloc: Global, shape: &Shape) -> Result<Shape, AllocError>
+fn copy_shape(alloc: Global, shape: &ItemsShape) -> Result<ItemsShape, AllocError>
     ensures items { IfOk result (λ copied. shown copied ≡ shown shape.now) }
     ensures held { IfOk result (λ copied. held copied ≡ held shape.now) }
 {
     match shape {
-        Shape::Leaf(items) => Ok(Shape::Leaf(share_items(alloc, items, 1)?)),
-        Shape::Fork(left, right) => Ok(Shape::Fork(left.copy()?, right.copy()?)),
+        ItemsShape::Leaf(items) => Ok(ItemsShape::Leaf(share_items(alloc, items, 1)?)),
+        ItemsShape::Fork(left, right) => Ok(ItemsShape::Fork(left.copy()?, right.copy()?)),
     }
 }

@@ -14,14 +14,18 @@ use std::cmp::Ordering;
 
 // An equal key, by its place and by the rank of this in the index.
 #[derive(Clone, Copy)]
-pub(crate) struct Found {
+pub(crate) struct FoundKey {
     pub(crate) rank: usize,
     pub(crate) place: usize,
 }
 
 // An equal key, or else the rank at which the place of this key belongs. It compares with as many
 // keys as the number of pairs has binary digits.
-pub(crate) fn search(key: &Value, entries: &Entries, index: &RankedPlaces) -> Result<Found, usize>
+pub(crate) fn search(
+    key: &Value,
+    entries: &Entries,
+    index: &RankedPlaces,
+) -> Result<FoundKey, usize>
     requires { Indexes index.now (entry_pairs entries.now) }
     ensures found { IfOk result (λ found. first_place (entry_pairs entries.now) (view key.now)
         ≡ Some found.place) }
@@ -37,7 +41,7 @@ pub(crate) fn search(key: &Value, entries: &Entries, index: &RankedPlaces) -> Re
         match compare(entries.key(place), key) {
             Ordering::Less => low = middle + 1,
             Ordering::Equal => {
-                return Ok(Found {
+                return Ok(FoundKey {
                     rank: middle,
                     place,
                 });

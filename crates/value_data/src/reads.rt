@@ -7,10 +7,10 @@ ghost use Rattle.value_data.specs.Inside.Nodes.{shown};
 
 use crate::copies::copy;
 use crate::node_measures::ItemsMeasure;
-use crate::value::{Shape, Tree, Value};
+use crate::value::{ItemsShape, ItemsTree, Value};
 use std::alloc::AllocError;
 
-impl Tree {
+impl ItemsTree {
     // How many items there are.
     pub(crate) fn len(&self) -> usize
         ensures count { result ≡ length self.now.items }
@@ -40,13 +40,13 @@ impl Tree {
 }
 
 // The item at a place that is one.
-pub(crate) fn item_at(shape: &Shape, place: usize) -> &Value
+pub(crate) fn item_at(shape: &ItemsShape, place: usize) -> &Value
     requires { place < length (shown shape.now) }
     ensures { view result.now ≡ slice_index_or (shown shape.now) place (view result.now) }
 {
     match shape {
-        Shape::Leaf(items) => &items[place],
-        Shape::Fork(left, right) => {
+        ItemsShape::Leaf(items) => &items[place],
+        ItemsShape::Fork(left, right) => {
             let before = left.len();
             if place < before {
                 item_at(&left.node.shape, place)
@@ -58,14 +58,14 @@ pub(crate) fn item_at(shape: &Shape, place: usize) -> &Value
 }
 
 // Some of the items from a place on, which lie in one row.
-pub(crate) fn chunk_from(shape: &Shape, place: usize) -> &[Value]
+pub(crate) fn chunk_from(shape: &ItemsShape, place: usize) -> &[Value]
     requires { place < length (shown shape.now) }
     ensures some { 0 < length result.now }
     ensures prefix { views result.now ≡ take (length result.now) (drop place (shown shape.now)) }
 {
     match shape {
-        Shape::Leaf(items) => &items[place..],
-        Shape::Fork(left, right) => {
+        ItemsShape::Leaf(items) => &items[place..],
+        ItemsShape::Fork(left, right) => {
             let before = left.len();
             if place < before {
                 chunk_from(&left.node.shape, place)
@@ -77,12 +77,12 @@ pub(crate) fn chunk_from(shape: &Shape, place: usize) -> &[Value]
 }
 
 // Puts copies of the items behind others: one step for each.
-pub(crate) fn copy_into(shape: &Shape, copies: &mut Vec<Value>) -> Result<(), AllocError>
+pub(crate) fn copy_into(shape: &ItemsShape, copies: &mut Vec<Value>) -> Result<(), AllocError>
     ensures { OnOk result (views copies.new.items ≡ views copies.old.items ++ shown shape.now) }
 {
     match shape {
-        Shape::Leaf(items) => push_copies(items, copies),
-        Shape::Fork(left, right) => {
+        ItemsShape::Leaf(items) => push_copies(items, copies),
+        ItemsShape::Fork(left, right) => {
             copy_into(&left.node.shape, copies)?;
             copy_into(&right.node.shape, copies)
         }

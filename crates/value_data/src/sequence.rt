@@ -12,7 +12,7 @@ ghost use Rattle.value_data.specs.Inside.Hash.{items_hash};
 ghost use Rattle.value_data.specs.Inside.Ends.{with_last, behind_first};
 
 use crate::reads::{chunk_from, copy_into, item_at};
-use crate::value::{Sequence, Tree, Value};
+use crate::value::{ItemsTree, Sequence, Value};
 use std::alloc::{AllocError, Global};
 use std::sync::Arc;
 
@@ -21,7 +21,7 @@ impl Sequence {
     pub fn from_vec(alloc: Global, items: Vec<Value>) -> Result<Sequence, AllocError>
         ensures { IfOk result (λ made. made.items ≡ items_view items.items) }
     {
-        Ok(Sequence::of(Tree::from_vec(alloc, items)?))
+        Ok(Sequence::of(ItemsTree::from_vec(alloc, items)?))
     }
 
     /// How many items there are.
@@ -175,17 +175,17 @@ impl Sequence {
         self.node.measure.hash()
     }
 
-    fn of(tree: Tree) -> Sequence
+    fn of(tree: ItemsTree) -> Sequence
         ensures { result.items ≡ items_of tree.items }
     {
-        let Tree { node } = tree;
+        let ItemsTree { node } = tree;
         Sequence { node }
     }
 
-    fn into_tree(self) -> Tree
+    fn into_tree(self) -> ItemsTree
         ensures { self.items ≡ items_of result.items }
     {
         let Sequence { node } = self;
-        Tree { node }
+        ItemsTree { node }
     }
 }

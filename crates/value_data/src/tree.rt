@@ -3,14 +3,14 @@ ghost use Rattle.std.specs.Prelude.{◌≡◌, [], ◌∷◌, ◌++◌, ◌<◌,
 ghost use Rattle.std.specs.List.{remove};
 ghost use Rattle.value_data.specs.Inside.View.{view, views};
 
-use crate::changes::Change;
+use crate::changes::ItemChange;
 use crate::forks::{LEAF, fork, leaf};
-use crate::value::{Tree, Value};
+use crate::value::{ItemsTree, Value};
 use std::alloc::{AllocError, Global};
 
-impl Tree {
+impl ItemsTree {
     // The items in leaves of equal size, in forks of equal height.
-    pub(crate) fn from_vec(alloc: Global, items: Vec<Value>) -> Result<Tree, AllocError>
+    pub(crate) fn from_vec(alloc: Global, items: Vec<Value>) -> Result<ItemsTree, AllocError>
         ensures { IfOk result (λ made. made.items ≡ views items.items) }
     {
         let mut items = items;
@@ -23,15 +23,15 @@ impl Tree {
         let behind = items.split_off(items.len() / 2)?;
         fork(
             alloc,
-            Tree::from_vec(alloc, items)?,
-            Tree::from_vec(alloc, behind)?,
+            ItemsTree::from_vec(alloc, items)?,
+            ItemsTree::from_vec(alloc, behind)?,
         )
     }
 }
 
 // Each edit changes the nodes on one path, those that nobody else holds in their place. After an
 // error, for want of memory, the items are as they were.
-impl Tree {
+impl ItemsTree {
     // One more item behind the others.
     pub(crate) fn push_back(&mut self, alloc: Global, item: Value) -> Result<(), AllocError>
         ensures { self.new.items ≡ (if is_ok result
@@ -39,7 +39,7 @@ impl Tree {
             else self.old.items) }
     {
         let place = self.len();
-        self.change(alloc, place, Change::Insert(item))
+        self.change(alloc, place, ItemChange::Insert(item))
     }
 
     // One more item before the others.
@@ -48,7 +48,7 @@ impl Tree {
             then view item ∷ self.old.items
             else self.old.items) }
     {
-        self.change(alloc, 0, Change::Insert(item))
+        self.change(alloc, 0, ItemChange::Insert(item))
     }
 
     // Another item at a place.
@@ -58,7 +58,7 @@ impl Tree {
             then slice_set self.old.items place (view item)
             else self.old.items) }
     {
-        self.change(alloc, place, Change::Replace(item))
+        self.change(alloc, place, ItemChange::Replace(item))
     }
 
     // Takes the item at a place out.
@@ -68,7 +68,7 @@ impl Tree {
             then remove self.old.items place
             else self.old.items) }
     {
-        self.change(alloc, place, Change::Remove)
+        self.change(alloc, place, ItemChange::Remove)
     }
 
     // Takes out the first item, where there is one.
@@ -80,6 +80,6 @@ impl Tree {
         if self.is_empty() {
             return Ok(());
         }
-        self.change(alloc, 0, Change::Remove)
+        self.change(alloc, 0, ItemChange::Remove)
     }
 }

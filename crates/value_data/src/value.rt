@@ -44,9 +44,9 @@ pub enum Value {
 // Items in one row, or those of two trees, one behind the other.
 #[cycle(value)]
 #[derive(Debug, Drop)]
-pub(crate) enum Shape {
+pub(crate) enum ItemsShape {
     Leaf(Vec<Value>),
-    Fork(Tree, Tree),
+    Fork(ItemsTree, ItemsTree),
 }
 
 // Items with their number and what was measured of them once. The height serves the balance alone.
@@ -56,20 +56,20 @@ pub(crate) struct ItemsNode {
     pub(crate) len: usize,
     pub(crate) height: u64,
     pub(crate) measure: ItemsMeasure,
-    pub(crate) shape: Shape,
+    pub(crate) shape: ItemsShape,
 }
 
 // Items in a balanced tree of nodes, each of which many trees may share.
 #[cycle(value)]
 #[derive(Debug, Drop)]
-pub(crate) struct Tree {
+pub(crate) struct ItemsTree {
     pub(crate) node: Arc<ItemsNode>,
 }
 
-impl Model for Tree {
-    ghost use Rattle.value_data.specs.Inside.Held.{TreeData, tree_code};
+impl Model for ItemsTree {
+    ghost use Rattle.value_data.specs.Inside.Held.{ItemsTreeData, tree_code};
 
-    ghost Value = { TreeData };
+    ghost Value = { ItemsTreeData };
 
     ghost coded = { tree_code };
 

@@ -74,7 +74,7 @@ const STREAMS: &[Stream] = &[
 // A stream, the decoder's limit, and what comes of it: its messages as they are written, whether
 // the rest is empty, and the fault.
 #[derive(Clone, Copy)]
-struct Row {
+struct StreamCase {
     stream: &'static [u8],
     limit: usize,
     written: &'static [u8],
@@ -82,7 +82,7 @@ struct Row {
     fault: Option<WireFault>,
 }
 
-fn row_of(stream: Stream) -> Row {
+fn row_of(stream: Stream) -> StreamCase {
     match stream {
         Whole(stream) => make_row(LIMIT, stream, stream, true, None),
         Sorted(stream, written) => make_row(LIMIT, stream, written, true, None),
@@ -100,8 +100,8 @@ fn make_row(
     written: &'static [u8],
     rest_is_empty: bool,
     fault: Option<WireFault>,
-) -> Row {
-    Row {
+) -> StreamCase {
+    StreamCase {
         stream,
         limit,
         written,
@@ -162,7 +162,12 @@ fn write_ready(decoder: &mut Decoder, out: &mut Vec<u8>) -> Result<(), AllocErro
 }
 
 // Whether what was written, what is left and the fault are the row's.
-fn is_as_wanted(row: Row, decoder: &Decoder, written: &[u8], fault: Option<WireFault>) -> bool {
+fn is_as_wanted(
+    row: StreamCase,
+    decoder: &Decoder,
+    written: &[u8],
+    fault: Option<WireFault>,
+) -> bool {
     written == row.written && decoder.rest_is_empty() == row.rest_is_empty && fault == row.fault
 }
 
@@ -183,7 +188,12 @@ fn feed_and_write(
 
 // Whether the row is read so where its second piece comes, is taken back and comes again. What it
 // completed before it was taken back is forgotten.
-fn reads_again(alloc: Global, row: Row, first: &[u8], second: &[u8]) -> Result<bool, AllocError> {
+fn reads_again(
+    alloc: Global,
+    row: StreamCase,
+    first: &[u8],
+    second: &[u8],
+) -> Result<bool, AllocError> {
     let mut decoder = Decoder::new(alloc, row.limit);
     let mut written = Vec::new(alloc);
     let mut fault = feed_and_write(alloc, &mut decoder, first, &mut written)?;
@@ -238,7 +248,7 @@ fn feed_bytes(
     Ok(fault)
 }
 
-fn is_read_byte_by_byte(alloc: Global, row: Row) -> Result<bool, AllocError> {
+fn is_read_byte_by_byte(alloc: Global, row: StreamCase) -> Result<bool, AllocError> {
     let mut decoder = Decoder::new(alloc, row.limit);
     let mut written = Vec::new(alloc);
     let fault = feed_bytes(alloc, &mut decoder, row.stream, &mut written)?;

@@ -7,7 +7,7 @@ use Rattle.std.specs.Prelude.{slice_set, true, false, Bool, ◌==◌, if◌then�
 use Rattle.value_data.specs.declared.value.Value.{Value}
 use Rattle.value_data.specs.Inside.View.{view}
 use Rattle.version_rings.specs.Versions.{Version, version, pushed, is_kept}
-use Rattle.version_rings.specs.Rings.{Rings, versions, SameBut, SameNodes, TakesNode, NodesAfter}
+use Rattle.version_rings.specs.Rings.{Rings, versions, SameOtherRings, SameNodes, TakesNode, NodesAfter}
 use Rattle.version_rings.specs.Inside.Nodes.{Space, newer_at, ring_versions}
 use Rattle.version_rings.specs.Inside.Nodes.{vacant, filled, with_newest, with_content, with_newer}
 use Rattle.version_rings.specs.Inside.Nodes.{node_at, all_emptied}
@@ -34,7 +34,7 @@ seen-here after s t rings later id vs b = seen after t later id ∙ b.here
 pub seen-others : (room after : ℕ) (s t : Space) (rings later : List (Option Ring)) (now : Rings)
     (id : RingId)
     (vs : List Version) → seen_rings room s rings ≡ now → Becomes s t rings later id.place vs
-    → SameBut id now (seen_rings after t later)
+    → SameOtherRings id now (seen_rings after t later)
 seen-others room after s t rings later now id vs is b other differ =
     seen after t later other
     ∙ b.others other.place (λ e. differ (ap (λ (n : ℕ). record { place = n }) e))

@@ -3,7 +3,7 @@ use Rattle.std.proofs.Common.{◌≡◌, ◌<◌, ◌≤◌, ℕ, zero, suc, Lis
 use Rattle.std.proofs.Common.{refl, sym, ap, ap₂, ◌∙◌, subst, arith}
 use Rattle.version_rings.specs.Versions.{Version}
 use Rattle.version_rings.specs.Inside.Nodes.{older_at, newer_at, version_at, versions_from}
-use Rattle.version_rings.specs.Inside.Nodes.{IsWithin}
+use Rattle.version_rings.specs.Inside.Nodes.{IsChainWithin}
 use Rattle.version_rings.specs.Inside.Sound.{Marks, Path, step_older, IsLinked}
 use Rattle.version_rings.specs.declared.node.Node.{Node}
 
@@ -85,7 +85,7 @@ shorter P ns m w (suc k) i before from path = (
 )
 
 pub path-within : (P : ℕ → ℕ → Type 0) (ns : List Node) (m : Marks) (w k i before from : ℕ)
-    → Path P ns m w k i before from → IsWithin ns k i
+    → Path P ns m w k i before from → IsChainWithin ns k i
 path-within P ns m w zero i before from path = tt
 path-within P ns m w (suc k) i before from path =
     (path.0, path-within P ns m w k (older_at ns i) (m.time i) i path.4)

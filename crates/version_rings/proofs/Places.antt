@@ -5,7 +5,7 @@ use Rattle.std.proofs.lemmas.Bool.{lt-leb}
 use Rattle.value_data.specs.Inside.View.{view}
 use Rattle.version_rings.specs.Versions.{at_point}
 use Rattle.version_rings.specs.Inside.Nodes.{node_at, older_at, Space}
-use Rattle.version_rings.specs.Inside.Nodes.{versions_from, IsWithin, CanEmpty, all_emptied}
+use Rattle.version_rings.specs.Inside.Nodes.{versions_from, IsChainWithin, CanEmpty, all_emptied}
 use Rattle.version_rings.specs.Inside.Nodes.{emptied}
 use Rattle.version_rings.specs.declared.node.Node.{Node}
 
@@ -13,12 +13,12 @@ use Rattle.version_rings.specs.declared.node.Node.{Node}
 pub one-less : (n k : ℕ) → k < n → n - k ≡ suc (n - (k + 1))
 one-less n k h = omega arith
 
-pub within-left : (ns : List Node) (n k i older : ℕ) → k < n → IsWithin ns (n - k) i
-    → older ≡ older_at ns i → IsWithin ns (n - (k + 1)) older
+pub within-left : (ns : List Node) (n k i older : ℕ) → k < n → IsChainWithin ns (n - k) i
+    → older ≡ older_at ns i → IsChainWithin ns (n - (k + 1)) older
 within-left ns n k i older h w e =
-    let here : IsWithin ns (suc (n - (k + 1))) i = subst (λ m. IsWithin ns m i) (one-less n k h) w
+    let here : IsChainWithin ns (suc (n - (k + 1))) i = subst (λ m. IsChainWithin ns m i) (one-less n k h) w
     in
-    subst (λ (o : ℕ). IsWithin ns (n - (k + 1)) o) (sym e) here.1
+    subst (λ (o : ℕ). IsChainWithin ns (n - (k + 1)) o) (sym e) here.1
 
 -- a version that is too young is passed
 pub read-left : (ns : List Node) (n k i older point stamp : ℕ) → k < n → older ≡ older_at ns i

@@ -7,7 +7,7 @@ use Rattle.version_rings.specs.Versions.{Version, is_kept}
 use Rattle.version_rings.specs.Rings.{Rings, versions, all_kept}
 use Rattle.version_rings.specs.Inside.Nodes.{Space, older_at, newer_at, version_at, versions_from}
 use Rattle.version_rings.specs.Inside.Nodes.{ring_versions}
-use Rattle.version_rings.specs.Inside.Nodes.{IsWithin}
+use Rattle.version_rings.specs.Inside.Nodes.{IsChainWithin}
 use Rattle.version_rings.specs.Inside.Seen.{seen_rings}
 use Rattle.version_rings.specs.Inside.Sound.{Path, IsSound, IsLinked, step_older}
 use Rattle.version_rings.specs.Inside.Sound.{IsEmptied, total}
@@ -29,10 +29,10 @@ seen-as room s rings now id is = ap (λ (r : Rings). versions r id) (sym is) ∙
 
 -- all of a ring can be read
 pub all-within : (s : Space) (rings : List (Option Ring)) (id : ℕ) (ring : Ring)
-    → IsSound s rings → ring_at rings id ≡ Some ring → IsWithin s.nodes ring.count ring.newest
+    → IsSound s rings → ring_at rings id ≡ Some ring → IsChainWithin s.nodes ring.count ring.newest
 all-within s rings id ring sound there =
     let c = sound.circles id ring there in
-    subst (λ (n : ℕ). IsWithin s.nodes n ring.newest) (sym c.many)
+    subst (λ (n : ℕ). IsChainWithin s.nodes n ring.newest) (sym c.many)
     (path-within (IsLinked s.nodes) s.nodes sound.marks (suc id) (suc c.behind) ring.newest
     sound.now (step_older s.nodes c.behind ring.newest) c.path)
 

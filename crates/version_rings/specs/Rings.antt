@@ -25,8 +25,8 @@ all_kept [] = 0
 all_kept (vs ∷ rest) = length vs + all_kept rest
 
 -- every other ring is as it was
-abbrev pub SameBut : RingId → Rings → Rings → Type 0
-SameBut id old new = (other : RingId) → other ≢ id → versions new other ≡ versions old other
+abbrev pub SameOtherRings : RingId → Rings → Rings → Type 0
+SameOtherRings id old new = (other : RingId) → other ≢ id → versions new other ≡ versions old other
 
 -- there are as many nodes, and as many of them in no ring
 pub record SameNodes (old new : Rings) : Type 0 where

@@ -31,10 +31,10 @@ impl NodeList {
     ghost use Rattle.std.specs.Prelude.{◌++◌, ◌∷◌, [], IsOk, OnOk, OnErr, slice_set};
     ghost use Rattle.version_rings.specs.Inside.Nodes.{node_at, older_at, newer_at};
     ghost use Rattle.version_rings.specs.Inside.Nodes.{with_older, with_newer, new_content};
-    ghost use Rattle.version_rings.specs.Inside.Listed.{listed, room_in};
+    ghost use Rattle.version_rings.specs.Inside.Listed.{nodes_listed, room_in};
 
     pub(crate) fn new(alloc: Global) -> NodeList
-        ensures none { listed result ≡ [] }
+        ensures none { nodes_listed result ≡ [] }
         ensures room { room_in result ≡ 0 }
     {
         NodeList {
@@ -46,7 +46,7 @@ impl NodeList {
     }
 
     pub(crate) fn len(&self) -> u32
-        ensures { result ≡ length (listed self.now) }
+        ensures { result ≡ length (nodes_listed self.now) }
     {
         self.joints.len() as u32
     }
@@ -57,7 +57,7 @@ impl NodeList {
         ensures more { room_in self.old ≤ room_in self.new }
         ensures succeeds { count ≤ room_in self.old → IsOk result }
         ensures as_before { OnErr result (room_in self.new ≡ room_in self.old) }
-        ensures same { listed self.new ≡ listed self.old }
+        ensures same { nodes_listed self.new ≡ nodes_listed self.old }
     {
         let len = self.joints.len();
         if count <= self.fitting - len {
@@ -75,7 +75,7 @@ impl NodeList {
 
     pub(crate) fn push_reserved(&mut self, node: Node)
         requires { 0 < room_in self.old }
-        ensures nodes { listed self.new ≡ listed self.old ++ node ∷ [] }
+        ensures nodes { nodes_listed self.new ≡ nodes_listed self.old ++ node ∷ [] }
         ensures room { room_in self.new + 1 ≡ room_in self.old }
     {
         let place = self.joints.len();
@@ -89,8 +89,8 @@ impl NodeList {
     }
 
     pub(crate) fn set(&mut self, place: u32, node: Node)
-        requires { place < length (listed self.old) }
-        ensures nodes { listed self.new ≡ slice_set (listed self.old) place node }
+        requires { place < length (nodes_listed self.old) }
+        ensures nodes { nodes_listed self.new ≡ slice_set (nodes_listed self.old) place node }
         ensures room { room_in self.new ≡ room_in self.old }
     {
         drop(self.replace(place, node));
@@ -98,8 +98,8 @@ impl NodeList {
 
     // The same, and gives the value that was there, which no clause says.
     pub(crate) fn replace(&mut self, place: u32, node: Node) -> Value
-        requires { place < length (listed self.old) }
-        ensures nodes { listed self.new ≡ slice_set (listed self.old) place node }
+        requires { place < length (nodes_listed self.old) }
+        ensures nodes { nodes_listed self.new ≡ slice_set (nodes_listed self.old) place node }
         ensures room { room_in self.new ≡ room_in self.old }
     {
         let place = place as usize;
@@ -116,8 +116,8 @@ impl NodeList {
     }
 
     pub(crate) fn set_version(&mut self, place: u32, stamp: u128, content: Value)
-        requires { place < length (listed self.old) }
-        ensures nodes { listed self.new ≡ new_content place stamp content (listed self.old) }
+        requires { place < length (nodes_listed self.old) }
+        ensures nodes { nodes_listed self.new ≡ new_content place stamp content (nodes_listed self.old) }
         ensures room { room_in self.new ≡ room_in self.old }
     {
         let place = place as usize;
@@ -134,8 +134,8 @@ impl NodeList {
     }
 
     pub(crate) fn set_older(&mut self, place: u32, older: u32)
-        requires { place < length (listed self.old) }
-        ensures nodes { listed self.new ≡ with_older place older (listed self.old) }
+        requires { place < length (nodes_listed self.old) }
+        ensures nodes { nodes_listed self.new ≡ with_older place older (nodes_listed self.old) }
         ensures room { room_in self.new ≡ room_in self.old }
     {
         let place = place as usize;
@@ -144,8 +144,8 @@ impl NodeList {
     }
 
     pub(crate) fn set_newer(&mut self, place: u32, newer: u32)
-        requires { place < length (listed self.old) }
-        ensures nodes { listed self.new ≡ with_newer place newer (listed self.old) }
+        requires { place < length (nodes_listed self.old) }
+        ensures nodes { nodes_listed self.new ≡ with_newer place newer (nodes_listed self.old) }
         ensures room { room_in self.new ≡ room_in self.old }
     {
         let place = place as usize;
@@ -154,30 +154,30 @@ impl NodeList {
     }
 
     pub(crate) fn older(&self, place: u32) -> u32
-        requires { place < length (listed self.now) }
-        ensures { result ≡ older_at (listed self.now) place }
+        requires { place < length (nodes_listed self.now) }
+        ensures { result ≡ older_at (nodes_listed self.now) place }
     {
         self.joints.at(place as usize).older
     }
 
     pub(crate) fn newer(&self, place: u32) -> u32
-        requires { place < length (listed self.now) }
-        ensures { result ≡ newer_at (listed self.now) place }
+        requires { place < length (nodes_listed self.now) }
+        ensures { result ≡ newer_at (nodes_listed self.now) place }
     {
         self.joints.at(place as usize).newer
     }
 
     pub(crate) fn stamp(&self, place: u32) -> u128
-        requires { place < length (listed self.now) }
-        ensures { result ≡ (node_at (listed self.now) place).stamp }
+        requires { place < length (nodes_listed self.now) }
+        ensures { result ≡ (node_at (nodes_listed self.now) place).stamp }
     {
         let place = place as usize;
         joined(upper_at(&self.uppers, place), self.joints.at(place).lower)
     }
 
     pub(crate) fn content(&self, place: u32) -> &Value
-        requires { place < length (listed self.now) }
-        ensures { result.now ≡ (node_at (listed self.now) place).content }
+        requires { place < length (nodes_listed self.now) }
+        ensures { result.now ≡ (node_at (nodes_listed self.now) place).content }
     {
         self.contents.at(place as usize)
     }

@@ -5,8 +5,8 @@ ghost use Rattle.value_data.specs.Inside.View.{view};
 ghost use Rattle.version_rings.specs.Versions.{at_point};
 ghost use Rattle.version_rings.specs.Inside.Nodes.{vacant, filled, linked, with_newest};
 ghost use Rattle.version_rings.specs.Inside.Nodes.{with_content, newer_at, versions_from};
-ghost use Rattle.version_rings.specs.Inside.Nodes.{all_emptied, CanEmpty, IsWithin, emptied};
-ghost use Rattle.version_rings.specs.Inside.Listed.{listed};
+ghost use Rattle.version_rings.specs.Inside.Nodes.{all_emptied, CanEmpty, IsChainWithin, emptied};
+ghost use Rattle.version_rings.specs.Inside.Listed.{nodes_listed};
 ghost use Rattle.version_rings.specs.Inside.Seen.{space, room};
 
 use crate::node::Node;
@@ -47,7 +47,7 @@ impl Nodes {
 
     // Only where no node is free there is one more.
     pub(crate) fn put(&mut self, node: Node) -> Result<(), AllocError>
-        requires { 0 < self.old.free → self.old.first_free < length (listed self.old.list) }
+        requires { 0 < self.old.free → self.old.first_free < length (nodes_listed self.old.list) }
         ensures put { OnOk result (space self.new ≡ filled (space self.old) node) }
         ensures takes { OnOk result (room self.old ≤ room self.new + 1) }
         ensures room { 0 < room self.old → IsOk result }
@@ -73,9 +73,9 @@ impl Nodes {
         stamp: u128,
         content: Value,
     ) -> Result<u32, AllocError>
-        requires vacant { 0 < self.old.free → self.old.first_free < length (listed self.old.list) }
-        requires newest { newest < length (listed self.old.list) }
-        requires oldest { newer_at (listed self.old.list) newest < length (listed self.old.list) }
+        requires vacant { 0 < self.old.free → self.old.first_free < length (nodes_listed self.old.list) }
+        requires newest { newest < length (nodes_listed self.old.list) }
+        requires oldest { newer_at (nodes_listed self.old.list) newest < length (nodes_listed self.old.list) }
         ensures place { IfOk result (λ place. place ≡ vacant (space self.old)) }
         ensures put { OnOk result
             (space self.new ≡ with_newest newest stamp content (space self.old)) }
@@ -98,8 +98,8 @@ impl Nodes {
 
     // The newest and the oldest of a ring link to a node between them.
     fn link(&mut self, place: u32, newest: u32, oldest: u32)
-        requires newest { newest < length (listed self.old.list) }
-        requires oldest { oldest < length (listed self.old.list) }
+        requires newest { newest < length (nodes_listed self.old.list) }
+        requires oldest { oldest < length (nodes_listed self.old.list) }
         ensures linked { space self.new ≡ linked place newest oldest (space self.old) }
         ensures room { room self.new ≡ room self.old }
     {
@@ -109,9 +109,9 @@ impl Nodes {
 
     // The oldest of a ring becomes its newest: all links stay.
     pub(crate) fn overwrite_oldest(&mut self, newest: u32, stamp: u128, content: Value) -> u32
-        requires newest { newest < length (listed self.old.list) }
-        requires oldest { newer_at (listed self.old.list) newest < length (listed self.old.list) }
-        ensures oldest { result ≡ newer_at (listed self.old.list) newest }
+        requires newest { newest < length (nodes_listed self.old.list) }
+        requires oldest { newer_at (nodes_listed self.old.list) newest < length (nodes_listed self.old.list) }
+        ensures oldest { result ≡ newer_at (nodes_listed self.old.list) newest }
         ensures room { room self.new ≡ room self.old }
         ensures written { space self.new
             ≡ with_content result stamp content (space self.old) }
@@ -135,8 +135,8 @@ impl Nodes {
 
     // Frees a node, and gives what it held.
     fn empty(&mut self, place: u32) -> Value
-        requires within { place < length (listed self.old.list) }
-        requires fits { self.old.free < length (listed self.old.list) }
+        requires within { place < length (nodes_listed self.old.list) }
+        requires fits { self.old.free < length (nodes_listed self.old.list) }
         ensures { space self.new ≡ emptied place (space self.old) }
     {
         let content = self.list.replace(
@@ -181,9 +181,9 @@ impl Nodes {
 
     // Of so many versions, from a place on to older ones, the first that is old enough.
     pub(crate) fn read_at(&self, newest: u32, count: u32, point: u128) -> Option<&Value>
-        requires { IsWithin (listed self.now.list) count newest }
+        requires { IsChainWithin (nodes_listed self.now.list) count newest }
         ensures { option_map (λ v. view v.now) result
-            ≡ at_point point (versions_from (listed self.now.list) count newest) }
+            ≡ at_point point (versions_from (nodes_listed self.now.list) count newest) }
     {
         let mut place = newest;
         for _passed in 0..count {

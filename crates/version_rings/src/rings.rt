@@ -4,7 +4,8 @@ ghost use Rattle.std.specs.Prelude.{option_map, length, ◌&&◌, ◌≤◌};
 ghost use Rattle.value_data.specs.Inside.View.{view};
 ghost use Rattle.version_rings.specs.Versions.{version, at_point, newest, is_newer, is_kept};
 ghost use Rattle.version_rings.specs.Versions.{pushed, IsAbove, IsFalling};
-ghost use Rattle.version_rings.specs.Rings.{versions, all_kept, SameBut, TakesNode, NodesAfter};
+ghost use Rattle.version_rings.specs.Rings.{versions, all_kept, SameOtherRings, TakesNode};
+ghost use Rattle.version_rings.specs.Rings.{NodesAfter};
 ghost use Rattle.version_rings.specs.declared.node.RingId.{RingId};
 
 use crate::node::{Node, Ring, RingId};
@@ -59,7 +60,7 @@ impl Rings {
         ensures is_new { IfOk result (λ id. versions self.old id ≡ []) }
         ensures made { IfOk result (λ id.
             versions self.new id ≡ version 0 (view value) ∷ []) }
-        ensures others { IfOk result (λ id. SameBut id self.old self.new) }
+        ensures others { IfOk result (λ id. SameOtherRings id self.old self.new) }
         ensures node { OnOk result (TakesNode self.old self.new) }
         ensures as_it_was { OnErr result (self.new ≡ self.old) }
     {
@@ -94,7 +95,7 @@ impl Rings {
             ≡ pushed grow (version stamp (view value)) (versions self.old id)) }
         ensures falling { IsAbove stamp (versions self.old id) → IsFalling (versions self.old id)
             → IsFalling (versions self.new id) }
-        ensures others { SameBut id self.old self.new }
+        ensures others { SameOtherRings id self.old self.new }
         ensures nodes { OnOk result (NodesAfter (grow && is_kept (versions self.old id))
             self.old self.new) }
         ensures overwrites { grow ≡ false → IsOk result }
@@ -164,7 +165,7 @@ impl Rings {
     /// Clears a ring, and frees its nodes. It costs a step for each version that was kept.
     pub fn release(&mut self, id: RingId)
         ensures gone { versions self.new id ≡ [] }
-        ensures others { SameBut id self.old self.new }
+        ensures others { SameOtherRings id self.old self.new }
         ensures slots { self.new.slots ≡ self.old.slots }
         ensures free { self.new.free ≡ self.old.free + length (versions self.old id) }
     {
@@ -177,7 +178,7 @@ impl Rings {
     /// finds no room there is dropped at once.
     pub fn take_out(&mut self, id: RingId, values: &mut Vec<Value>)
         ensures gone { versions self.new id ≡ [] }
-        ensures others { SameBut id self.old self.new }
+        ensures others { SameOtherRings id self.old self.new }
         ensures slots { self.new.slots ≡ self.old.slots }
         ensures free { self.new.free ≡ self.old.free + length (versions self.old id) }
     {

@@ -16,7 +16,7 @@ use Rattle.walker_state.specs.Position.{around, Position, wanted_position, outer
 use Rattle.walker_state.specs.Position.{IsOn}
 use Rattle.walker_state.specs.declared.frames.State.{State}
 use Rattle.walker_machine.specs.declared.steps.Leg.{Leg}
-use Rattle.walker_machine.specs.declared.steps.Stop.{Stop}
+use Rattle.walker_machine.specs.declared.steps.AskOrEnd.{AskOrEnd}
 use Rattle.walker_machine.specs.declared.steps.WaitingEvaluation.{WaitingEvaluation}
 use Rattle.walker_machine.specs.declared.steps.Reached.{Reached}
 
@@ -26,10 +26,10 @@ leg_tree (Leg.Enters f values room) s =
     from_state (body_value (value_at room) (function_view (arc_value f)) (views values.items)) s
 leg_tree (Leg.Ends end) s = ends (end_view end) (string_bytes s.text) (kept_of s)
 
-abbrev pub stop_tree : Stop → State → InteractionTree
-stop_tree (Stop.Asks ask wanted) s =
+abbrev pub stop_tree : AskOrEnd → State → InteractionTree
+stop_tree (AskOrEnd.Asks ask wanted) s =
     asks (ask_view ask) (λ answer. tree_with_answer wanted answer s)
-stop_tree (Stop.Ends end) s = ends (end_view end) (string_bytes s.text) (kept_of s)
+stop_tree (AskOrEnd.Ends end) s = ends (end_view end) (string_bytes s.text) (kept_of s)
 
 -- what an evaluation does with the answer that it waits for
 abbrev pub tree_behind : WaitingEvaluation → AnswerData → InteractionTree
@@ -53,9 +53,9 @@ IsOnLeg (Leg.Enters f values room) s old = (around s.transaction ≡ old.transac
 IsOnLeg (Leg.Ends end) s old = ⊤
 
 -- it came on without an answer, or there is no more to do
-abbrev pub IsOnStop : Stop → State → Position → Type 0
-IsOnStop (Stop.Asks ask wanted) s old = IsOn (wanted_position wanted s) old
-IsOnStop (Stop.Ends end) s old = ⊤
+abbrev pub IsOnStop : AskOrEnd → State → Position → Type 0
+IsOnStop (AskOrEnd.Asks ask wanted) s old = IsOn (wanted_position wanted s) old
+IsOnStop (AskOrEnd.Ends end) s old = ⊤
 
 -- the same of one that waits
 abbrev pub IsOnReached : Reached → Position → Type 0

@@ -5,7 +5,7 @@ ghost use Rattle.std.specs.Prelude.{◌≡◌, ◌+◌, ◌*◌, ◌<◌, ◌≤
 ghost use Rattle.std.specs.Arc.{arc_str_bytes};
 ghost use Rattle.value_data.specs.Datum.{nil};
 ghost use Rattle.value_data.specs.Inside.View.{view};
-ghost use Rattle.evaluation_rules.specs.Rows.{last_of};
+ghost use Rattle.evaluation_rules.specs.Rows.{value_of_last};
 ghost use Rattle.evaluation_rules.specs.Transactions.{transaction_value, effects_value};
 ghost use Rattle.walker_state.specs.Pending.{whole_at, place_of, kept_of};
 ghost use Rattle.walker_state.specs.Frames.{frames_next, bottom};
@@ -86,7 +86,7 @@ fn transact(alloc: Global, state: &mut State, body: Forms, room: u32) -> Result<
         (LeadsOnWithin (3 + forms_size (forms_view body)) state.old state.new) }
     ensures meaning { IfOk result (λ control. tree control state.new
         ≡ from_state (outside_shared_text (transaction_value
-        (last_of (value_at room (place_of state.old)) nil (forms_view body)))) state.old) }
+        (value_of_last (value_at room (place_of state.old)) nil (forms_view body)))) state.old) }
 {
     if state.setting.occasion.is_shared_text() {
         return Ok(Control::Fault(broken_rule(alloc, Rule::SharedTextDefinesAlone)?));
@@ -104,7 +104,7 @@ fn affect(alloc: Global, state: &mut State, body: Forms, room: u32) -> Result<Co
         (LeadsOnWithin (3 + forms_size (forms_view body)) state.old state.new) }
     ensures meaning { IfOk result (λ control. tree control state.new
         ≡ from_state (outside_shared_text (effects_value
-        (last_of (value_at room (place_of state.old)) nil (forms_view body)))) state.old) }
+        (value_of_last (value_at room (place_of state.old)) nil (forms_view body)))) state.old) }
 {
     if state.setting.occasion.is_shared_text() {
         return Ok(Control::Fault(broken_rule(alloc, Rule::SharedTextDefinesAlone)?));

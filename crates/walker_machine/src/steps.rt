@@ -55,7 +55,7 @@ pub enum Reached {
 
 // What an evaluation asks next, or its end.
 #[derive(Drop)]
-enum Stop {
+enum AskOrEnd {
     Asks(Ask, Wanted),
     Ends(End),
 }
@@ -91,8 +91,8 @@ pub fn begin(alloc: Global, job: &Job) -> Result<Reached, AllocError>
     };
     let control = begin_work(alloc, &mut state, &job.work)?;
     match go_on(alloc, &mut state, control)? {
-        Stop::Ends(end) => Ok(end_reached(state, end)),
-        Stop::Asks(ask, wanted) => {
+        AskOrEnd::Ends(end) => Ok(end_reached(state, end)),
+        AskOrEnd::Asks(ask, wanted) => {
             let state = Box::new(alloc, state)?;
             Ok(Reached::Asks(WaitingEvaluation { state, wanted }, ask))
         }
@@ -109,8 +109,8 @@ impl WaitingEvaluation {
         let WaitingEvaluation { mut state, wanted } = self;
         let control = use_answer(alloc, &mut state, wanted, answer)?;
         match go_on(alloc, &mut state, control)? {
-            Stop::Ends(end) => Ok(end_reached(Box::into_inner(state), end)),
-            Stop::Asks(ask, wanted) => {
+            AskOrEnd::Ends(end) => Ok(end_reached(Box::into_inner(state), end)),
+            AskOrEnd::Asks(ask, wanted) => {
                 Ok(Reached::Asks(WaitingEvaluation { state, wanted }, ask))
             }
         }
@@ -118,7 +118,7 @@ impl WaitingEvaluation {
 }
 
 // Each further leg has taken a call from the budget.
-fn go_on(alloc: Global, state: &mut State, control: Control) -> Result<Stop, AllocError>
+fn go_on(alloc: Global, state: &mut State, control: Control) -> Result<AskOrEnd, AllocError>
     ensures meaning { IfOk result (λ stop. stop_tree stop state.new ≡ tree control state.old) }
     ensures on { IfOk result (λ stop.
         IsOnStop stop state.new (control_position control state.old)) }
@@ -126,8 +126,8 @@ fn go_on(alloc: Global, state: &mut State, control: Control) -> Result<Stop, All
     let mut control = control;
     loop {
         control = match run_leg(alloc, state, control)? {
-            Leg::Ends(end) => return Ok(Stop::Ends(end)),
-            Leg::Asks(ask, wanted) => return Ok(Stop::Asks(ask, wanted)),
+            Leg::Ends(end) => return Ok(AskOrEnd::Ends(end)),
+            Leg::Asks(ask, wanted) => return Ok(AskOrEnd::Asks(ask, wanted)),
             Leg::Enters(function, values, room) => enter(alloc, state, function, values, room)?,
         };
     }

@@ -21,7 +21,7 @@ use Rattle.evaluation_rules.specs.Doing.{Kept, Doing, left, failed, retried, ask
 use Rattle.evaluation_rules.specs.Doing.{looking, trying, Part, pure_part, fails}
 use Rattle.evaluation_rules.specs.Tree.{with_attempt, ends, written_tree}
 use Rattle.evaluation_rules.specs.Places.{PlaceData}
-use Rattle.evaluation_rules.specs.Rows.{last_of}
+use Rattle.evaluation_rules.specs.Rows.{value_of_last}
 use Rattle.evaluation_rules.specs.Evaluation.{value_at}
 use Rattle.evaluation_rules.specs.Transactions.{attempts, after_body, body_of, transacted_value}
 use Rattle.evaluation_rules.specs.Transactions.{with_running}
@@ -110,10 +110,10 @@ pub transaction-begun : (s u : State) (t : Transaction) (forms : Forms) (room : 
     → (place_of u ≡ place_of s) × (string_bytes u.text ≡ string_bytes s.text) × (u.setting ≡ s.setting)
     → (t.body ≡ forms) × (t.room ≡ room) × (t.calls ≡ s.calls) × (arc_str_bytes t.namespace ≡ arc_str_bytes s.namespace)
     → (t.left ≡ s.setting.retries - 1) × (t.frames ≡ s.frames)
-    → asks begin (λ answer. begun_tree t u) ≡ from_state (transacted_value false (last_of (value_at room (place_of s)) nil (forms_view forms))) s
+    → asks begin (λ answer. begun_tree t u) ≡ from_state (transacted_value false (value_of_last (value_at room (place_of s)) nil (forms_view forms))) s
 unfolding again
 transaction-begun s u t forms room none some same entered around =
-    let body : Part Datum = last_of (value_at room (place_of s)) nil (forms_view forms) in
+    let body : Part Datum = value_of_last (value_at room (place_of s)) nil (forms_view forms) in
     rw (same.0, same.1, same.2, entered.0, entered.1, entered.2, entered.3, around.0, around.1)
     (sym (ap (written_tree (string_bytes s.text)) (outside s.setting s.transaction _ (transacted_value false body (next_of s) (kept_of s)) none
     ∙ attempts-left s.setting.retries (body_of body (kept_of s)) (next_of s) (kept_of s) some)))
@@ -142,7 +142,7 @@ pub begun-at : (s u : State) (b : Box Transaction Global) (t : Transaction) (a :
     → (u.frames.items ≡ []) × (u.calls ≡ t.calls) × (arc_str_bytes u.namespace ≡ arc_str_bytes t.namespace) × (u.transaction ≡ Some b)
     → (b.value ≡ record t { attempt = a }) × (attempt_view a ≡ nothing_noted)
     → (forms_view forms ≡ forms_view t.body) × (room ≡ t.room) × (v ≡ nil)
-    → from_state (last_of (value_at room (place_of u)) v (forms_view forms)) u ≡ begun_tree t s
+    → from_state (value_of_last (value_at room (place_of u)) v (forms_view forms)) u ≡ begun_tree t s
 unfolding inside_attempt again
 begun-at s u b t a forms room v same entered fresh body =
     rw (same.0, same.1, same.2, entered.0, entered.1, entered.2, entered.3, fresh.0, fresh.1, body.0, body.1, body.2) refl

@@ -15,7 +15,7 @@ use Rattle.value_data.specs.Inside.View.{views}
 use Rattle.evaluation_rules.specs.Arguments.{atom_in}
 use Rattle.evaluation_rules.specs.Inside.View.{swapped_view}
 use Rattle.evaluation_rules.specs.declared.outcome.Swapped.{Swapped}
-use Rattle.evaluation_rules.specs.Doing.{Doing, asking, Part, ◌>>=◌}
+use Rattle.evaluation_rules.specs.Doing.{Doing, asking, Part, ◌|>◌}
 use Rattle.evaluation_rules.specs.Tree.{ends}
 use Rattle.evaluation_rules.specs.Places.{Evaluator}
 use Rattle.evaluation_rules.specs.Refs.{asked_value}
@@ -77,12 +77,12 @@ swap_again-none w told s none is = rw (none, is) (sym (fails-at too_many_calls s
 
 swapped-left : (n : ℕ) (walk : Evaluator) (f : NamedFunctionData) (args : List Datum) (atom : ℕ) → n ≢ 0
     → swapped_value n walk f args atom
-    ≡ (asked_value (read_atom atom) >>= seen_value walk f args atom (swapped_value (n - 1) walk f args atom))
+    ≡ (asked_value (read_atom atom) |> seen_value walk f args atom (swapped_value (n - 1) walk f args atom))
 unfolding swapped_value
 swapped-left zero walk f args atom some = absurd (some refl)
 swapped-left (suc n) walk f args atom some =
     let e : suc n - 1 ≡ n = omega arith in
-    ap (λ (m : ℕ). asked_value (read_atom atom) >>= seen_value walk f args atom (swapped_value m walk f args atom)) (sym e)
+    ap (λ (m : ℕ). asked_value (read_atom atom) |> seen_value walk f args atom (swapped_value m walk f args atom)) (sym e)
 
 -- one is
 pub swap_again-left : (w u : Swap) (s : State) → w.left ≢ 0 → u ≡ record w { left = w.left - 1 }

@@ -14,9 +14,9 @@ use Rattle.special_forms.specs.Truth.{is_truthy}
 use Rattle.special_forms.specs.Inside.Seen.{forms_view}
 use Rattle.evaluation_rules.specs.declared.altering.Alteration.{Alteration}
 use Rattle.evaluation_rules.specs.declared.updating.Update.{Update}
-use Rattle.evaluation_rules.specs.Doing.{Kept, Doing, gave, left, Part, ◌>>=◌, pure_part, fails}
+use Rattle.evaluation_rules.specs.Doing.{Kept, Doing, gave, left, Part, ◌|>◌, pure_part, fails}
 use Rattle.evaluation_rules.specs.Places.{PlaceData, with_local}
-use Rattle.evaluation_rules.specs.Rows.{row, last_of}
+use Rattle.evaluation_rules.specs.Rows.{row, value_of_last}
 use Rattle.evaluation_rules.specs.Naming.{function_value}
 use Rattle.evaluation_rules.specs.Refs.{held_value}
 use Rattle.evaluation_rules.specs.Applying.{CalleeData, named_callee, keyword_callee}
@@ -52,7 +52,7 @@ collection_value Collection.Map = map_value
 -- the items of a vector, or the keys and values of a map
 abbrev pub items_value : ℕ → PlaceData → Collection → List Datum → Part Datum
 items_value zero p kind ds = fails failures.too_deep
-items_value (suc room) p kind ds = row (value_at room p) ds >>= collection_value kind
+items_value (suc room) p kind ds = row (value_at room p) ds |> collection_value kind
 
 abbrev pub list_at : ℕ → PlaceData → List Datum → Part Datum
 list_at room p [] = pure_part (list no_items)
@@ -76,12 +76,12 @@ items_behind room p kind values forms next =
 -- call
 abbrev pub update_with : ℕ → PlaceData → Update → Datum → List Datum → NamedFunctionData → Part Datum
 update_with room p by d forms f =
-    row (value_at room p) forms >>= λ vs. counted_call (value_at room) (update_callee by f) (d ∷ vs)
+    row (value_at room p) forms |> λ vs. counted_call (value_at room) (update_callee by f) (d ∷ vs)
 
 -- one of them behind its first argument
 unfoldable pub update_behind : ℕ → PlaceData → Update → Datum → Datum → List Datum → Part Datum
 update_behind room p by d function forms =
-    function_value p function >>= update_with room p by d forms
+    function_value p function |> update_with room p by d forms
 
 -- `alter` or `commute` behind the value of its ref
 unfoldable pub alter_step : ℕ → Alteration → RefNameData → NamedFunctionData → List Datum → Datum
@@ -120,9 +120,9 @@ frames_next (Frame.Collection kind values forms room ∷ frames) p v kept =
     items_behind room p kind (views values.items ++ v ∷ []) (forms_view forms)
     (frames_next frames p) kept
 frames_next (Frame.Body forms room ∷ frames) p v kept =
-    last_of (value_at room p) v (forms_view forms) (frames_next frames p) kept
+    value_of_last (value_at room p) v (forms_view forms) (frames_next frames p) kept
 frames_next (Frame.Choice consequent alternative room ∷ frames) p v kept =
-    last_of (value_at room p) nil (if is_truthy v then forms_view consequent
+    value_of_last (value_at room p) nil (if is_truthy v then forms_view consequent
     else forms_view alternative) (frames_next frames p) kept
 frames_next (Frame.Logic which forms room ∷ frames) p v kept =
     logic_value (value_at room p) which v (forms_view forms) (frames_next frames p) kept

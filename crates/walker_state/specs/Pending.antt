@@ -11,7 +11,7 @@ use Rattle.repl_asks.specs.declared.answer.Resolution.{Resolution}
 use Rattle.repl_asks.specs.InteractionTree.{InteractionTree, asks}
 use Rattle.special_forms.specs.Inside.Seen.{forms_view, function_view}
 use Rattle.repl_asks.specs.Accesses.{nothing_noted}
-use Rattle.evaluation_rules.specs.Doing.{Kept, Doing, Part, ◌>>=◌, pure_part}
+use Rattle.evaluation_rules.specs.Doing.{Kept, Doing, Part, ◌|>◌, pure_part}
 use Rattle.evaluation_rules.specs.Tree.{with_attempt, ends, written_tree}
 use Rattle.evaluation_rules.specs.Places.{PlaceData}
 use Rattle.evaluation_rules.specs.Naming.{resolution, as_value, as_function}
@@ -68,17 +68,17 @@ tree_with_value frame v s =
 
 -- the call of the function that a symbol names
 abbrev pub resolved_call : ℕ → PlaceData → List Datum → ResolutionData → Part Datum
-resolved_call room p forms r = as_function r >>= λ f. named_call (value_at room) p forms f
+resolved_call room p forms r = as_function r |> λ f. named_call (value_at room) p forms f
 
 abbrev pub value_for_use : PlaceData → SymbolUse → ResolutionData → Part Datum
 value_for_use p (SymbolUse.Value name) r = as_value (arc_str_bytes name) r
 value_for_use p (SymbolUse.Head forms room) r = resolved_call room p (forms_view forms) r
 value_for_use p (SymbolUse.Update by v forms room) r = as_function r
-    >>= update_with room p by (view v) (forms_view forms)
+    |> update_with room p by (view v) (forms_view forms)
 
 -- a symbol in its place
 abbrev pub symbol_for_use : PlaceData → List ℕ → SymbolUse → Part Datum
-symbol_for_use p s purpose = resolution p s >>= value_for_use p purpose
+symbol_for_use p s purpose = resolution p s |> value_for_use p purpose
 
 -- what is done once an attempt of this transaction has begun, and its place is this one
 abbrev pub begun_tree : Transaction → State → InteractionTree

@@ -9,7 +9,7 @@ use Rattle.tx_attempt.specs.Inside.Seen.{attempt_view}
 use Rattle.evaluation_rules.specs.Doing.{Kept, Doing, left}
 use Rattle.evaluation_rules.specs.Tree.{with_attempt}
 use Rattle.evaluation_rules.specs.Places.{PlaceData}
-use Rattle.evaluation_rules.specs.Rows.{last_of}
+use Rattle.evaluation_rules.specs.Rows.{value_of_last}
 use Rattle.evaluation_rules.specs.Transactions.{body_of, after_body, attempts}
 use Rattle.evaluation_rules.specs.Evaluation.{value_at}
 use Rattle.walker_state.specs.declared.frames.Setting.{Setting}
@@ -29,7 +29,7 @@ kept_at setting t = record {
 }
 
 abbrev pub body_at : Setting → Transaction → PlaceData → Doing
-body_at setting t p = body_of (last_of (value_at t.room p) nil (forms_view t.body))
+body_at setting t p = body_of (value_of_last (value_at t.room p) nil (forms_view t.body))
     (kept_at setting t)
 
 -- the attempts that are left

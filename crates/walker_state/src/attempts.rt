@@ -2,7 +2,7 @@
 ghost use Rattle.std.specs.Prelude.{◌≡◌, ◌<◌, [], false, None, IfOk, string_bytes};
 ghost use Rattle.evaluation_rules.specs.Doing.{left, retried};
 ghost use Rattle.evaluation_rules.specs.Tree.{written_tree};
-ghost use Rattle.evaluation_rules.specs.Rows.{last_of};
+ghost use Rattle.evaluation_rules.specs.Rows.{value_of_last};
 ghost use Rattle.evaluation_rules.specs.Evaluation.{value_at};
 ghost use Rattle.evaluation_rules.specs.Transactions.{transacted_value};
 ghost use Rattle.value_data.specs.declared.value.RefName.{RefName};
@@ -39,7 +39,7 @@ pub fn begin_transaction(
     ensures on { IfOk result (LeadsOnWithin 3 state.old state.new) }
     ensures meaning { IfOk result (λ control. tree control state.new
         ≡ from_state (transacted_value false
-        (last_of (value_at room (place_of state.old)) nil (forms_view body))) state.old) }
+        (value_of_last (value_at room (place_of state.old)) nil (forms_view body))) state.old) }
 {
     if state.setting.retries == 0 {
         return Ok(Control::Fault(broken_rule(alloc, Rule::AttemptsAreLimited)?));

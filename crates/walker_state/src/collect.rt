@@ -54,7 +54,7 @@ fn map_of(alloc: Global, values: Vec<Value>) -> Result<Control, AllocError>
     ensures meaning { IfOk result (λ control. (s : State)
         → tree control s ≡ from_state (map_value (views values.items)) s) }
 {
-    let Entries { keys, pairs } = by_turns(alloc, values)?;
+    let MapEntries { keys, pairs } = by_turns(alloc, values)?;
     match Table::from_pairs(alloc, pairs)? {
         Built::Made(pairs) => within_limits(alloc, Value::Map(pairs)),
         Built::Repeats(place) => Ok(Control::Fault(duplicate_key(alloc, &keys[place])?)),
@@ -63,12 +63,12 @@ fn map_of(alloc: Global, values: Vec<Value>) -> Result<Control, AllocError>
 
 // The pairs of a map in order, and once more their keys, of which a fault may have to tell.
 #[derive(Drop)]
-struct Entries {
+struct MapEntries {
     keys: Vec<Value>,
     pairs: Vec<(Value, Value)>,
 }
 
-fn by_turns(alloc: Global, row: Vec<Value>) -> Result<Entries, AllocError>
+fn by_turns(alloc: Global, row: Vec<Value>) -> Result<MapEntries, AllocError>
     ensures keys { IfOk result (λ entries. views entries.keys.items ≡ keys_in (views row.items)) }
     ensures pairs { IfOk result (λ entries. map pair_view entries.pairs.items
         ≡ zip (keys_in (views row.items)) (values_in (views row.items))) }
@@ -78,10 +78,10 @@ fn by_turns(alloc: Global, row: Vec<Value>) -> Result<Entries, AllocError>
     let mut pairs = Vec::new(alloc);
     while let Some(key) = row.pop_front() {
         let Some(value) = row.pop_front() else {
-            return Ok(Entries { keys, pairs });
+            return Ok(MapEntries { keys, pairs });
         };
         keys.push(copy(&key)?)?;
         pairs.push((key, value))?;
     }
-    Ok(Entries { keys, pairs })
+    Ok(MapEntries { keys, pairs })
 }

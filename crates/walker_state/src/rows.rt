@@ -2,7 +2,7 @@
 ghost use Rattle.std.specs.Prelude.{◌≡◌, ◌+◌, ◌<◌, IfOk};
 ghost use Rattle.std.specs.Arc.{arc_str_bytes};
 ghost use Rattle.value_data.specs.Inside.View.{view};
-ghost use Rattle.evaluation_rules.specs.Rows.{last_of};
+ghost use Rattle.evaluation_rules.specs.Rows.{value_of_last};
 ghost use Rattle.evaluation_rules.specs.Evaluation.{value_at};
 ghost use Rattle.evaluation_rules.specs.Places.{with_local};
 ghost use Rattle.special_forms.specs.Inside.Seen.{forms_view};
@@ -28,7 +28,7 @@ pub fn next_in_body(
     ensures on { IfOk result
         (LeadsOnWithin (2 + forms_size (forms_view forms)) state.old state.new) }
     ensures meaning { IfOk result (λ control. tree control state.new
-        ≡ from_state (last_of (value_at room (place_of state.old)) (view last) (forms_view forms))
+        ≡ from_state (value_of_last (value_at room (place_of state.old)) (view last) (forms_view forms))
         state.old) }
 {
     match forms.take_first()? {

@@ -2,7 +2,8 @@
 use Rattle.std.specs.Prelude.{◌≡◌, ℕ, ◌≤◌, ◌+◌, Bool, false, cond, nat_lt, nat_le, List, []}
 use Rattle.std.specs.Prelude.{◌∷◌, length}
 use Rattle.bencode_wire.specs.Tree.{Tree, holds_key}
-use Rattle.bencode_wire.specs.Inside.Cut.{Frame, at_value, Token, between, after_i, after_minus}
+use Rattle.bencode_wire.specs.Inside.Cut.{OpenContainer, at_value, Token, between, after_i}
+use Rattle.bencode_wire.specs.Inside.Cut.{after_minus}
 use Rattle.bencode_wire.specs.Inside.Cut.{digits}
 use Rattle.bencode_wire.specs.Inside.Cut.{count, part, Cut, cut}
 use Rattle.bencode_wire.specs.Inside.Sign.{sign_of}
@@ -34,7 +35,7 @@ abbrev pub start : Cut
 start = cut [] between
 
 -- what a run of bytes makes of a cut: one byte, or some of a string
-abbrev pub step_run : Adding → List Frame → Token → List ℕ → ByteEffect
+abbrev pub step_run : Adding → List OpenContainer → Token → List ℕ → ByteEffect
 step_run add fs token [] = stuck
 step_run add fs between (b ∷ bs) = begin add fs (sign_of b)
 step_run add fs after_i (b ∷ bs) = integer_open fs (sign_of b)

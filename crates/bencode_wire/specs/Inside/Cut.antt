@@ -2,17 +2,17 @@
 -- open, the innermost first, and the part of a token that has come. No public clause speaks of it.
 use Rattle.std.specs.Prelude.{ℕ, ◌+◌, ◌<◌, ◌≤◌, ◌⊎◌, Bool, true, false, List, [], ◌∷◌, ◌++◌, length}
 use Rattle.std.specs.Prelude.{codes, decimal}
-use Rattle.bencode_wire.specs.Tree.{Trees, Pairs, no_pairs}
+use Rattle.bencode_wire.specs.Tree.{Trees, TreePairs, no_pairs}
 use Rattle.bencode_wire.specs.Spelling.{trees_text, pairs_text, string_text, AreSpellable, ArePairs}
-use Rattle.bencode_wire.specs.Spelling.{IsLength, IsString, sorted_trees, put_pairs}
+use Rattle.bencode_wire.specs.Spelling.{IsLength, IsString, sorted_trees, put_tree_pairs}
 
-pub data Frame : Type 0 where
+pub data OpenContainer : Type 0 where
   -- a list, with the values that it holds
-  in_list : Trees → Frame
+  in_list : Trees → OpenContainer
   -- a dictionary in which a key may come
-  at_key : Pairs → Frame
+  at_key : TreePairs → OpenContainer
   -- a dictionary in which the value of a key has to come
-  at_value : Pairs → List ℕ → Frame
+  at_value : TreePairs → List ℕ → OpenContainer
 
 pub data Token : Type 0 where
   between : Token
@@ -26,14 +26,14 @@ pub data Token : Type 0 where
   part : List ℕ → ℕ → Token
 
 pub data Cut : Type 0 where
-  cut : List Frame → Token → Cut
+  cut : List OpenContainer → Token → Cut
 
-abbrev pub frame_text : Frame → List ℕ
+abbrev pub frame_text : OpenContainer → List ℕ
 frame_text (in_list ts) = codes "l" ++ trees_text ts
 frame_text (at_key ps) = codes "d" ++ pairs_text ps
 frame_text (at_value ps key) = codes "d" ++ pairs_text ps ++ string_text key
 
-abbrev pub frames_text : List Frame → List ℕ
+abbrev pub frames_text : List OpenContainer → List ℕ
 frames_text [] = []
 frames_text (f ∷ fs) = frames_text fs ++ frame_text f
 
@@ -51,19 +51,19 @@ abbrev pub cut_text : Cut → List ℕ
 cut_text (cut fs token) = frames_text fs ++ token_text token
 
 -- the bound where there are frames
-abbrev pub IfAny : List Frame → Type 0 → Type 0
+abbrev pub IfAny : List OpenContainer → Type 0 → Type 0
 IfAny [] p = Unit {0}
 IfAny (f ∷ fs) p = p
 
 -- frames in which a value may come, the outermost being a dictionary
-abbrev pub TakesValue : List Frame → Type 0
+abbrev pub TakesValue : List OpenContainer → Type 0
 TakesValue [] = ⊥
 TakesValue (in_list ts ∷ fs) = AreSpellable ts × TakesValue fs
 TakesValue (at_key ps ∷ fs) = ⊥
 TakesValue (at_value ps key ∷ fs) = ArePairs ps × IsString key × IfAny fs (TakesValue fs)
 
 -- frames in which a key may come
-abbrev pub TakesKey : List Frame → Type 0
+abbrev pub TakesKey : List OpenContainer → Type 0
 TakesKey [] = ⊥
 TakesKey (in_list ts ∷ fs) = ⊥
 TakesKey (at_key ps ∷ fs) = ArePairs ps × IfAny fs (TakesValue fs)
@@ -86,12 +86,12 @@ IsCut (cut fs (part bytes left)) = (TakesValue fs ⊎ TakesKey fs) × (0 < left)
     × IsLength (length bytes + left)
 
 -- a cut with the pairs that it holds put in by their keys
-abbrev pub sorted_frame : Frame → Frame
+abbrev pub sorted_frame : OpenContainer → OpenContainer
 sorted_frame (in_list ts) = in_list (sorted_trees ts)
-sorted_frame (at_key ps) = at_key (put_pairs no_pairs ps)
-sorted_frame (at_value ps key) = at_value (put_pairs no_pairs ps) key
+sorted_frame (at_key ps) = at_key (put_tree_pairs no_pairs ps)
+sorted_frame (at_value ps key) = at_value (put_tree_pairs no_pairs ps) key
 
-abbrev pub sorted_frames : List Frame → List Frame
+abbrev pub sorted_frames : List OpenContainer → List OpenContainer
 sorted_frames [] = []
 sorted_frames (f ∷ fs) = sorted_frame f ∷ sorted_frames fs
 

@@ -3,25 +3,25 @@ use Rattle.std.specs.Prelude.{◌≡◌, ℕ, ◌<◌, ◌+◌, ◌-◌, List, [
 use Rattle.std.specs.Prelude.{Option, Some, None}
 use Rattle.std.specs.declared.alloc.Global.{Global}
 use Rattle.std.specs.List.{slice_index_or}
-use Rattle.bencode_wire.specs.Tree.{Pairs}
+use Rattle.bencode_wire.specs.Tree.{TreePairs}
 use Rattle.bencode_wire.specs.Inside.Sign.{sign_of}
 use Rattle.bencode_wire.specs.declared.sign.Sign.{Sign}
 use Rattle.bencode_wire.specs.Inside.Cut as cuts
 use Rattle.bencode_wire.specs.Inside.View.{trees_view, entries_view}
-use Rattle.bencode_wire.specs.declared.cut.Frame.{Frame}
+use Rattle.bencode_wire.specs.declared.cut.OpenContainer.{OpenContainer}
 use Rattle.bencode_wire.specs.declared.cut.Token.{Token}
 use Rattle.bencode_wire.specs.declared.cut.Reader.{Reader}
 
-abbrev pub dictionary_view : Pairs → Option (Vec ℕ Global) → cuts.Frame
+abbrev pub dictionary_view : TreePairs → Option (Vec ℕ Global) → cuts.OpenContainer
 dictionary_view ps None = cuts.at_key ps
 dictionary_view ps (Some key) = cuts.at_value ps key.items
 
-abbrev pub frame_view : Frame → cuts.Frame
-frame_view (Frame.List items) = cuts.in_list (trees_view items.items)
-frame_view (Frame.Dictionary d) = dictionary_view (entries_view d.pairs.entries) d.key
+abbrev pub frame_view : OpenContainer → cuts.OpenContainer
+frame_view (OpenContainer.List items) = cuts.in_list (trees_view items.items)
+frame_view (OpenContainer.Dictionary d) = dictionary_view (entries_view d.pairs.entries) d.key
 
 -- the innermost first
-abbrev pub frames_view : List Frame → List cuts.Frame
+abbrev pub frames_view : List OpenContainer → List cuts.OpenContainer
 frames_view fs = reverse (map frame_view fs)
 
 -- how many bytes of a string have come

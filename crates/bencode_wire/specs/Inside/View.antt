@@ -2,7 +2,7 @@
 use Rattle.std.specs.Prelude.{ℕ, List, [], ◌∷◌, map, Vec}
 use Rattle.std.specs.declared.alloc.Global.{Global}
 use Rattle.bencode_wire.specs.Tree.{Tree, integer, string, list, dictionary, Trees, no_trees, tree}
-use Rattle.bencode_wire.specs.Tree.{Pairs, no_pairs, pair}
+use Rattle.bencode_wire.specs.Tree.{TreePairs, no_pairs, pair}
 use Rattle.bencode_wire.specs.declared.ben.Ben.{Ben, fold-Ben}
 use Rattle.bencode_wire.specs.declared.ben.Ben.TheOpen.{Ben-F}
 
@@ -10,7 +10,7 @@ abbrev pub trees_of : List Tree → Trees
 trees_of [] = no_trees
 trees_of (t ∷ ts) = tree t (trees_of ts)
 
-abbrev pub pairs_from : List (Vec ℕ Global × Tree) → Pairs
+abbrev pub pairs_from : List (Vec ℕ Global × Tree) → TreePairs
 pairs_from [] = no_pairs
 pairs_from (p ∷ ps) = pair p.0.items p.1 (pairs_from ps)
 
@@ -30,5 +30,5 @@ trees_view vs = trees_of (map tree_view vs)
 abbrev pub entry_tree : Vec ℕ Global × Ben → Vec ℕ Global × Tree
 entry_tree p = (p.0, tree_view p.1)
 
-abbrev pub entries_view : List (Vec ℕ Global × Ben) → Pairs
+abbrev pub entries_view : List (Vec ℕ Global × Ben) → TreePairs
 entries_view ps = pairs_from (map entry_tree ps)

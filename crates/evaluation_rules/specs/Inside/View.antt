@@ -8,7 +8,7 @@ use Rattle.repl_asks.specs.Inside.View.{name_view, ask_view}
 use Rattle.evaluation_rules.specs.Calling.{CallData, refused, reads, puts, ensures, asks_value}
 use Rattle.evaluation_rules.specs.Calling.{asks_permission}
 use Rattle.evaluation_rules.specs.Arguments.{BoundsData}
-use Rattle.evaluation_rules.specs.declared.bounds.Bounds.{Bounds}
+use Rattle.evaluation_rules.specs.declared.bounds.HistoryBounds.{HistoryBounds}
 use Rattle.evaluation_rules.specs.declared.outcome.Addressed.{Addressed}
 use Rattle.evaluation_rules.specs.declared.outcome.Altered.{Altered}
 use Rattle.evaluation_rules.specs.declared.outcome.Call.{Call}
@@ -37,5 +37,5 @@ abbrev pub addressed_view : Addressed → Result ℕ Failure
 addressed_view (Addressed.Agent n) = Ok n
 addressed_view (Addressed.Refused f) = Err (failure_of f)
 
-abbrev pub bounds_view : Bounds → BoundsData
+abbrev pub bounds_view : HistoryBounds → BoundsData
 bounds_view b = record { least = b.least; most = b.most }

@@ -3,7 +3,7 @@ use Rattle.std.specs.Prelude.{◌≡◌, Some}
 use Rattle.server_rules.specs.Ground.{Ground}
 use Rattle.server_rules.specs.Machine.World.{TenantData, World}
 use Rattle.server_rules.specs.Grounds.{IsRight}
-use Rattle.server_rules.specs.Inside.Turned.{Left}
+use Rattle.server_rules.specs.Inside.Turned.{LeftToDo}
 use Rattle.server_rules.specs.LoneTurns.{LoneTenant}
 use Rattle.repl_core.specs.Grounds.{Evaluates}
 use Rattle.repl_core.specs.Going.{AreWalkedIn}
@@ -12,7 +12,7 @@ use Rattle.repl_core.specs.Standing as machine
 use Rattle.repl_core.specs.Standing.{open_in, store_in}
 use Rattle.machine_runs.specs.declared.runner.Runner.{Runner}
 
-abbrev pub work_left : Runner → Left
+abbrev pub work_left : Runner → LeftToDo
 work_left r = left_at 0 r.machine
 
 abbrev pub tenant_data_of : LoneTenant → TenantData

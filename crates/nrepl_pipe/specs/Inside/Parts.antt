@@ -6,7 +6,7 @@ use Rattle.server_rules.specs.Ground.{Ground}
 use Rattle.server_rules.specs.declared.refusal.Refusal.{Refusal}
 use Rattle.server_rules.specs.LoneTurns.{LoneTenant, LoneTurn, LoneStepped, refused, lone_run}
 use Rattle.server_rules.specs.LoneTurns.{lone_served}
-use Rattle.server_rules.specs.Inside.Turned.{Accepted}
+use Rattle.server_rules.specs.Inside.Turned.{AcceptedWith}
 use Rattle.nrepl_pipe.specs.Schedule.{Rests, AllRest, AreRounds, MeetsWorn}
 use Rattle.nrepl_pipe.specs.declared.stream.HearAnswer.{HearAnswer}
 use Rattle.nrepl_pipe.specs.declared.actors.Turned.{Turned}
@@ -24,12 +24,12 @@ LosesPiece unread left =
 
 -- what came of a piece
 abbrev pub HearsSo : HearAnswer → (LoneTenant → Type 0) → LoneStepped → Type 0
-HearsSo HearAnswer.Done Stands stepped = Accepted Stands stepped
+HearsSo HearAnswer.Done Stands stepped = AcceptedWith Stands stepped
 HearsSo HearAnswer.Worn Stands stepped = stepped ≡ refused Refusal.Worn
 
 -- what came of an actor's turn
 abbrev pub TurnsSo : Turned → LoneStepped → Type 0
-TurnsSo Turned.Done stepped = Accepted (λ l. ⊤) stepped
+TurnsSo Turned.Done stepped = AcceptedWith (λ l. ⊤) stepped
 TurnsSo Turned.Held stepped = stepped ≡ refused Refusal.Held
 TurnsSo Turned.Worn stepped = stepped ≡ refused Refusal.Worn
 TurnsSo Turned.Idle stepped = Rests stepped × (stepped ≢ refused Refusal.Worn)

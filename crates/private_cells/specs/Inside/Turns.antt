@@ -31,20 +31,20 @@ abbrev pub first_session : List SentAction → Option (Option ℕ)
 first_session [] = None
 first_session (x ∷ xs) = Some x.action.session
 
-abbrev pub weight : (ActionTurn → ℕ) → Option ActionTurn → ℕ
-weight f None = 0
-weight f (Some turn) = f turn
+abbrev pub turn_weight : (ActionTurn → ℕ) → Option ActionTurn → ℕ
+turn_weight f None = 0
+turn_weight f (Some turn) = f turn
 
 -- The change of an agent, at whatever place, opens the turn of this number, or none. It closes
 -- none.
 abbrev pub Opens : Option ℕ → AgentData → AgentData → Type 0
-Opens number old new = (place : ℕ) (f : ActionTurn → ℕ) → weight f (open_turn place new)
-    ≡ weight f (option_map (turn_at place) number) + weight f (open_turn place old)
+Opens number old new = (place : ℕ) (f : ActionTurn → ℕ) → turn_weight f (open_turn place new)
+    ≡ turn_weight f (option_map (turn_at place) number) + turn_weight f (open_turn place old)
 
 -- what f gives for the turns of all agents that lie at places from this one on, in all
 abbrev pub open_sum : (ActionTurn → ℕ) → ℕ → List AgentData → ℕ
 open_sum f place [] = 0
-open_sum f place (a ∷ agents) = weight f (open_turn place a) + open_sum f (suc place) agents
+open_sum f place (a ∷ agents) = turn_weight f (open_turn place a) + open_sum f (suc place) agents
 
 -- a turn as the heap has it, which gives its greatest first
 abbrev pub HeapTurn : Type 0

@@ -4,7 +4,7 @@ use Rattle.server_rules.specs.Ground.{Ground}
 use Rattle.server_rules.specs.Plan.{Deed, StepAnswer, refuses, leaves}
 use Rattle.server_rules.specs.Tenant.{TenantState}
 use Rattle.server_rules.specs.declared.refusal.Refusal.{Refusal}
-use Rattle.ref_table.specs.Refs.{Refs, refs_after}
+use Rattle.ref_table.specs.Refs.{TableRefs, refs_after}
 use Rattle.tenant_parts.specs.Serving.{RingRefTable, TableServes}
 use Rattle.server_rules.specs.DeedResult.{DeedResult, deed_result}
 use Rattle.server_rules.specs.Grounds.{IsRight}
@@ -26,7 +26,7 @@ abbrev pub parts : Tenant → RingRefTable → Walks → Parts
 parts tenant table walks = record { tenant = tenant; table = table; walks = walks }
 
 -- the table stands for these refs, which are those of all tenants
-pub record PartsStand (g : Ground) (p : Parts) (l : LoneTenant) (r : Refs) : Type 0 where
+pub record PartsStand (g : Ground) (p : Parts) (l : LoneTenant) (r : TableRefs) : Type 0 where
   pub right : IsRight g
   pub ground : Evaluates g
   pub tenant : world.StandsForState g p.tenant l.state l.store
@@ -41,7 +41,7 @@ abbrev pub lone_behind : DeedResult → TenantState → LoneTenant
 lone_behind d q = record { state = q; store = d.store }
 
 -- the deed is accepted
-pub record AcceptsHonestDeed (g : Ground) (l : LoneTenant) (r : Refs) (deed : Deed) (p : Parts)
+pub record AcceptsHonestDeed (g : Ground) (l : LoneTenant) (r : TableRefs) (deed : Deed) (p : Parts)
     : Type 0 where
   pub after : TenantState
   pub answer : StepAnswer
@@ -50,7 +50,7 @@ pub record AcceptsHonestDeed (g : Ground) (l : LoneTenant) (r : Refs) (deed : De
       (refs_after (comes_to g l deed).store r)
 
 -- the deed is refused so, unless for want of memory
-pub record RefusesHonestDeed (g : Ground) (l : LoneTenant) (r : Refs) (deed : Deed) (p : Parts)
+pub record RefusesHonestDeed (g : Ground) (l : LoneTenant) (r : TableRefs) (deed : Deed) (p : Parts)
     (why : Refusal)
     : Type 0 where
   pub refused : why ≢ Refusal.NoMemory → (comes_to g l deed).outcome ≡ refuses why

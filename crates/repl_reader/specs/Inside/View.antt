@@ -9,13 +9,13 @@ use Rattle.repl_reader.specs.Reading as plain
 use Rattle.repl_reader.specs.declared.fault.Break.{Break}
 use Rattle.repl_reader.specs.declared.fault.ReaderFault.{ReaderFault}
 use Rattle.repl_reader.specs.declared.reading.Bracket.{Bracket}
-use Rattle.repl_reader.specs.declared.reading.Mark.{Mark}
+use Rattle.repl_reader.specs.declared.reading.MacroCharacter.{MacroCharacter}
 use Rattle.repl_reader.specs.declared.reading.FormReading.{FormReading}
 use Rattle.repl_reader.specs.declared.next.Next.{Next}
-use Rattle.repl_reader.specs.declared.entries.Entries.{Entries}
+use Rattle.repl_reader.specs.declared.entries.MapEntries.{MapEntries}
 use Rattle.repl_reader.specs.declared.nest.Front.{Front}
-use Rattle.repl_reader.specs.declared.nest.Row.{Row as CodeRow}
-use Rattle.repl_reader.specs.Grammar.{Reads, Row, most_nested, nests_too_deep, wrapped_reading}
+use Rattle.repl_reader.specs.declared.nest.RowReading.{RowReading}
+use Rattle.repl_reader.specs.Grammar.{Reads, ReadsRow, most_nested, nests_too_deep, wrapped_reading}
 use Rattle.repl_reader.specs.Grammar.{enclosed_reading}
 
 abbrev pub break_view : Break → BreakData
@@ -29,9 +29,9 @@ bracket_view Bracket.Round = plain.round
 bracket_view Bracket.Square = plain.square
 bracket_view Bracket.Curly = plain.curly
 
-abbrev pub mark_symbol : Mark → List ℕ
-mark_symbol Mark.Quote = codes "quote"
-mark_symbol Mark.Deref = codes "clojure.core/deref"
+abbrev pub mark_symbol : MacroCharacter → List ℕ
+mark_symbol MacroCharacter.Quote = codes "quote"
+mark_symbol MacroCharacter.Deref = codes "clojure.core/deref"
 
 abbrev pub form_reading_view : FormReading → plain.FormReading
 form_reading_view (FormReading.Form v rest) = plain.begins (view v) rest.now
@@ -51,7 +51,7 @@ IsValue None d = d ≡ None
 IsValue (Some v) d = d ≡ Some (view v)
 
 -- the pairs of forms by turns, with their keys once more
-abbrev pub AreEntries : Option Entries → Option Pairs → Type 0
+abbrev pub AreEntries : Option MapEntries → Option Pairs → Type 0
 AreEntries None ps = ps ≡ None
 AreEntries (Some e) ps = (ps ≡ Some (pairs_view e.pairs.items))
     × (keys_of (pairs_view e.pairs.items) ≡ items_view e.keys.items)
@@ -68,12 +68,13 @@ pub data IsMarked (depth : ℕ) (name text : List ℕ) : plain.FormReading → T
   wraps_deep : most_nested ≤ depth → IsMarked depth name text (nests_too_deep text)
 
 pub data IsOpened (depth : ℕ) (b : plain.Bracket) (text : List ℕ) : plain.FormReading → Type 0 where
-  encloses : (ds : Items) (r : plain.FormReading) → depth < most_nested → Row (depth + 1) text ds r
-      → IsOpened depth b text (enclosed_reading b ds r)
+  encloses : (ds : Items) (r : plain.FormReading) → depth < most_nested
+      → ReadsRow (depth + 1) text ds r → IsOpened depth b text (enclosed_reading b ds r)
   encloses_deep : most_nested ≤ depth → IsOpened depth b text (nests_too_deep text)
 
-abbrev pub IsRow : ℕ → List ℕ → CodeRow → Type 0
-IsRow depth text row = Row depth text (items_view row.forms.items) (form_reading_view row.after)
+abbrev pub IsRowReading : ℕ → List ℕ → RowReading → Type 0
+IsRowReading depth text row =
+    ReadsRow depth text (items_view row.forms.items) (form_reading_view row.after)
 
 abbrev pub fault_option : Option ReaderFault → Option FaultData
 fault_option None = None

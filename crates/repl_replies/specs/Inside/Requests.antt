@@ -1,7 +1,7 @@
 -- What a message asks for (the nREPL manual, "Supported nREPL operations").
 use Rattle.std.specs.Prelude.{ℕ, List, Bool, false, Option, Some, None, if◌then◌else◌, codes}
 use Rattle.std.specs.Str.{bytes_eq}
-use Rattle.bencode_wire.specs.Tree.{Tree, integer, string, list, dictionary, Pairs, field}
+use Rattle.bencode_wire.specs.Tree.{Tree, integer, string, list, dictionary, TreePairs, field}
 pub use Rattle.repl_replies.specs.Fields.{text_of}
 use Rattle.repl_replies.specs.Replies.{OriginData, BodyData, unknown_op, unknown_session, no_code}
 use Rattle.repl_replies.specs.Replies.{ReplyData}
@@ -38,7 +38,7 @@ for_session origin code ns None = with_code origin ns (text_of code)
 for_session origin code ns (Some session) = refused origin unknown_session
 
 -- the operation is looked at first, then the session, then the code
-unfoldable pub request_or_reply : Pairs → RequestOrReplyData
+unfoldable pub request_or_reply : TreePairs → RequestOrReplyData
 request_or_reply fields =
     let origin : OriginData = record {
       id = field (codes "id") fields;

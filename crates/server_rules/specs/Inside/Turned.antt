@@ -4,16 +4,16 @@ use Rattle.server_rules.specs.declared.refusal.Refusal.{Refusal}
 use Rattle.server_rules.specs.LoneTurns.{LoneTenant, LoneStepped, accepted, refused}
 
 -- how much is left to do, by which a loop over a tenant ends
-pub record Left : Type 0 where
+pub record LeftToDo : Type 0 where
   -- how many more pieces and asks, starts and ends of forms it takes
   pub steps : ℕ
   -- the replies that wait, oldest first, each as its bytes
   pub outbox : List (List ℕ)
 
 -- the step is accepted, and what is told of the tenant holds after it
-abbrev pub Accepted : (LoneTenant → Type 0) → LoneStepped → Type 0
-Accepted Stands (accepted new bytes) = Stands new
-Accepted Stands (refused why) = ⊥
+abbrev pub AcceptedWith : (LoneTenant → Type 0) → LoneStepped → Type 0
+AcceptedWith Stands (accepted new bytes) = Stands new
+AcceptedWith Stands (refused why) = ⊥
 
 -- the step is refused so
 abbrev pub IsRefusedTurn : Refusal → LoneStepped → Type 0

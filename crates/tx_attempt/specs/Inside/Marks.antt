@@ -4,10 +4,10 @@ use Rattle.value_data.specs.declared.value.RefName.{RefName}
 use Rattle.repl_asks.specs.Transactions.{RefNameData}
 use Rattle.repl_asks.specs.Inside.View.{name_view}
 use Rattle.repl_asks.specs.Accesses.{is_among}
-use Rattle.tx_attempt.specs.Inside.States.{StateData, States}
+use Rattle.tx_attempt.specs.Inside.States.{RefStateData, States}
 
 -- a ref has the mark where it is in the list
-abbrev pub KeepsMark : (StateData → Bool) → States → List RefName → Type 0
+abbrev pub KeepsMark : (RefStateData → Bool) → States → List RefName → Type 0
 KeepsMark mark states names =
     (n : RefNameData) → mark (states n) ≡ is_among n (map name_view names)
 

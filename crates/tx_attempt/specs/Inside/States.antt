@@ -16,7 +16,7 @@ use Rattle.tx_attempt.specs.declared.state.RefState.{RefState}
 use Rattle.tx_attempt.specs.declared.states.RefStates.{RefStates}
 
 -- the value of a ref, if it was named, its commutes, and what was done to it
-pub record StateData : Type 0 where
+pub record RefStateData : Type 0 where
   pub value : Option Datum
   pub commutes : List CommuteData
   pub is_set : Bool
@@ -24,7 +24,7 @@ pub record StateData : Type 0 where
   pub is_commuted : Bool
 
 -- of a ref that was not named
-abbrev pub unnamed : StateData
+abbrev pub unnamed : RefStateData
 unnamed = record {
   value = None;
   commutes = [];
@@ -33,8 +33,8 @@ unnamed = record {
   is_commuted = false;
 }
 
-abbrev pub state_view : RefState → StateData
-state_view s = record {
+abbrev pub ref_state_view : RefState → RefStateData
+ref_state_view s = record {
   value = Some (view s.value);
   commutes = map commute_view s.commutes.items;
   is_set = s.is_set;
@@ -43,30 +43,30 @@ state_view s = record {
 }
 
 abbrev pub States : Type 0
-States = RefNameData → StateData
+States = RefNameData → RefStateData
 
 unfoldable pub states_of : (Key → Key → Ordering) → RefStates → States
-states_of order s name = option_map_or state_view (get order s.by_key (key_of name)) unnamed
+states_of order s name = option_map_or ref_state_view (get order s.by_key (key_of name)) unnamed
 
 -- this ref has this state, the others have theirs
-abbrev pub with_state : RefNameData → StateData → States → States
-with_state name s all n = if same_name name n then s else all n
+abbrev pub with_ref_state : RefNameData → RefStateData → States → States
+with_ref_state name s all n = if same_name name n then s else all n
 
 -- one more thing was done to a ref
-abbrev pub marked : Mark → StateData → StateData
+abbrev pub marked : Mark → RefStateData → RefStateData
 marked Mark.Read s = s
 marked Mark.Set s = record s { is_set = true }
 marked Mark.Ensure s = record s { is_ensured = true }
 
-abbrev pub is_marked : Mark → StateData → Bool
+abbrev pub is_marked : Mark → RefStateData → Bool
 is_marked Mark.Read s = true
 is_marked Mark.Set s = s.is_set
 is_marked Mark.Ensure s = s.is_ensured
 
-abbrev pub has_value : Datum → StateData → StateData
+abbrev pub has_value : Datum → RefStateData → RefStateData
 has_value d s = record s { value = Some d }
 
-abbrev pub has_commute : CommuteData → StateData → StateData
+abbrev pub has_commute : CommuteData → RefStateData → RefStateData
 has_commute c s = record s { commutes = s.commutes ++ c ∷ []; is_commuted = true }
 
 -- what is to be committed of a ref, if it was named

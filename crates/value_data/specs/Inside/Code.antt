@@ -6,7 +6,7 @@ use Rattle.std.specs.Coded.{Coded, code_by}
 use Rattle.value_data.specs.Datum.{Datum, nil, boolean, integer, string, keyword, symbol, list}
 use Rattle.value_data.specs.Datum.{vector, map, ref, atom, agent, var, fault, Items, no_items, item}
 use Rattle.value_data.specs.Datum.{Pairs, no_pairs, pair}
-use Rattle.value_data.specs.Inside.CodedNodes.{Node, nodes_code, n_nil, n_boolean, n_integer}
+use Rattle.value_data.specs.Inside.CodedNodes.{CodedNode, nodes_code, n_nil, n_boolean, n_integer}
 use Rattle.value_data.specs.Inside.CodedNodes.{n_string}
 use Rattle.value_data.specs.Inside.CodedNodes.{n_keyword, n_symbol, n_ref, n_atom, n_agent, n_var}
 use Rattle.value_data.specs.Inside.CodedNodes.{n_fault}
@@ -16,7 +16,7 @@ use Rattle.value_data.specs.Inside.CodedNodes.{n_pair}
 
 -- the nodes of a value, before those that follow
 abbrev mutual
-  pub write : Datum → List Node → List Node
+  pub write : Datum → List CodedNode → List CodedNode
   write nil ns = n_nil ∷ ns
   write (boolean b) ns = n_boolean b ∷ ns
   write (integer n) ns = n_integer n ∷ ns
@@ -32,11 +32,11 @@ abbrev mutual
   write (var space name) ns = n_var space name ∷ ns
   write (fault class text) ns = n_fault class text ∷ ns
 
-  pub write_items : Items → List Node → List Node
+  pub write_items : Items → List CodedNode → List CodedNode
   write_items no_items ns = n_no_items ∷ ns
   write_items (item d ds) ns = write_items ds (write d (n_item ∷ ns))
 
-  pub write_pairs : Pairs → List Node → List Node
+  pub write_pairs : Pairs → List CodedNode → List CodedNode
   write_pairs no_pairs ns = n_no_pairs ∷ ns
   write_pairs (pair k v ps) ns = write_pairs ps (write k (write v (n_pair ∷ ns)))
 
@@ -46,7 +46,7 @@ pub data StackEntry : Type 0 where
   some_items : Items → StackEntry
   some_pairs : Pairs → StackEntry
 
-abbrev pub with_node : Node → List StackEntry → List StackEntry
+abbrev pub with_node : CodedNode → List StackEntry → List StackEntry
 with_node n_nil ps = one nil ∷ ps
 with_node (n_boolean b) ps = one (boolean b) ∷ ps
 with_node (n_integer n) ps = one (integer n) ∷ ps
@@ -67,12 +67,12 @@ with_node n_no_pairs ps = some_pairs no_pairs ∷ ps
 with_node n_pair (one v ∷ one k ∷ some_pairs qs ∷ ps) = some_pairs (pair k v qs) ∷ ps
 with_node _ ps = ps
 
-abbrev pub read : List Node → List StackEntry → List StackEntry
+abbrev pub read : List CodedNode → List StackEntry → List StackEntry
 read [] ps = ps
 read (n ∷ ns) ps = read ns (with_node n ps)
 
 mutual
-  pub read-write : (d : Datum) (ns : List Node) (ps : List StackEntry)
+  pub read-write : (d : Datum) (ns : List CodedNode) (ps : List StackEntry)
       → read (write d ns) ps ≡ read ns (one d ∷ ps)
   read-write nil ns ps = refl
   read-write (boolean b) ns ps = refl
@@ -89,14 +89,14 @@ mutual
   read-write (var space name) ns ps = refl
   read-write (fault class text) ns ps = refl
 
-  pub read-write_items : (ds : Items) (ns : List Node) (ps : List StackEntry)
+  pub read-write_items : (ds : Items) (ns : List CodedNode) (ps : List StackEntry)
       → read (write_items ds ns) ps ≡ read ns (some_items ds ∷ ps)
   read-write_items no_items ns ps = refl
   read-write_items (item d ds) ns ps =
       read-write_items ds (write d (n_item ∷ ns)) ps
       ∙ read-write d (n_item ∷ ns) (some_items ds ∷ ps)
 
-  pub read-write_pairs : (qs : Pairs) (ns : List Node) (ps : List StackEntry)
+  pub read-write_pairs : (qs : Pairs) (ns : List CodedNode) (ps : List StackEntry)
       → read (write_pairs qs ns) ps ≡ read ns (some_pairs qs ∷ ps)
   read-write_pairs no_pairs ns ps = refl
   read-write_pairs (pair k v qs) ns ps =
@@ -126,13 +126,13 @@ pub pairs-read : (qs : Pairs) → read_pairs (read (write_pairs qs []) []) ≡ q
 pairs-read qs = ap read_pairs (read-write_pairs qs [] [])
 
 abbrev pub datum_code : Coded Datum
-datum_code = code_by (List Node) nodes_code (λ d. write d [])
+datum_code = code_by (List CodedNode) nodes_code (λ d. write d [])
     (λ ns. read_datum (read ns [])) datum-read
 
 abbrev pub items_code : Coded Items
-items_code = code_by (List Node) nodes_code (λ ds. write_items ds [])
+items_code = code_by (List CodedNode) nodes_code (λ ds. write_items ds [])
     (λ ns. read_items (read ns [])) items-read
 
 abbrev pub pairs_code : Coded Pairs
-pairs_code = code_by (List Node) nodes_code (λ qs. write_pairs qs [])
+pairs_code = code_by (List CodedNode) nodes_code (λ qs. write_pairs qs [])
     (λ ns. read_pairs (read ns [])) pairs-read

@@ -22,25 +22,25 @@ owner_code = code_by (Option ℕ) (coded_option coded_ℕ) owner_number numbered
     numbered_owner-owner_number
 
 -- a value that has no parts, or what to do with the parts that were read last
-pub data Node : Type 0 where
-  n_nil : Node
-  n_boolean : Bool → Node
-  n_integer : ℤ → Node
-  n_string : List ℕ → Node
-  n_keyword : List ℕ → Node
-  n_symbol : List ℕ → Node
-  n_ref : OwnerData → ℕ → Node
-  n_atom : ℕ → Node
-  n_agent : ℕ → Node
-  n_var : List ℕ → List ℕ → Node
-  n_fault : List ℕ → List ℕ → Node
-  n_list : Node
-  n_vector : Node
-  n_map : Node
-  n_no_items : Node
-  n_item : Node
-  n_no_pairs : Node
-  n_pair : Node
+pub data CodedNode : Type 0 where
+  n_nil : CodedNode
+  n_boolean : Bool → CodedNode
+  n_integer : ℤ → CodedNode
+  n_string : List ℕ → CodedNode
+  n_keyword : List ℕ → CodedNode
+  n_symbol : List ℕ → CodedNode
+  n_ref : OwnerData → ℕ → CodedNode
+  n_atom : ℕ → CodedNode
+  n_agent : ℕ → CodedNode
+  n_var : List ℕ → List ℕ → CodedNode
+  n_fault : List ℕ → List ℕ → CodedNode
+  n_list : CodedNode
+  n_vector : CodedNode
+  n_map : CodedNode
+  n_no_items : CodedNode
+  n_item : CodedNode
+  n_no_pairs : CodedNode
+  n_pair : CodedNode
 
 -- a node as its kind, its number and its texts
 abbrev pub NodeFields : Type 0
@@ -49,7 +49,7 @@ NodeFields = ℕ × (ℤ × (List ℕ × List ℕ))
 abbrev pub node_fields : ℕ → ℤ → List ℕ → List ℕ → NodeFields
 node_fields kind n s t = (kind, (n, (s, t)))
 
-abbrev pub fields_of_node : Node → NodeFields
+abbrev pub fields_of_node : CodedNode → NodeFields
 fields_of_node n_nil = node_fields 0 (pos 0) [] []
 fields_of_node (n_boolean b) = node_fields 1 (pos (if b then 1 else 0)) [] []
 fields_of_node (n_integer n) = node_fields 2 n [] []
@@ -74,7 +74,7 @@ abbrev pub first_number : List ℕ → ℕ
 first_number [] = 0
 first_number (n ∷ ns) = n
 
-abbrev pub node_of_fields : NodeFields → Node
+abbrev pub node_of_fields : NodeFields → CodedNode
 node_of_fields r =
     if r.0 == 0 then n_nil else (
     if r.0 == 1 then n_boolean (unsigned_abs r.1.0 == 1) else (
@@ -95,7 +95,7 @@ node_of_fields r =
     if r.0 == 16 then n_item else (
     if r.0 == 17 then n_no_pairs else n_pair)))))))))))))))))
 
-pub node_of_fields-fields_of_node : (n : Node) → node_of_fields (fields_of_node n) ≡ n
+pub node_of_fields-fields_of_node : (n : CodedNode) → node_of_fields (fields_of_node n) ≡ n
 node_of_fields-fields_of_node n_nil = refl
 node_of_fields-fields_of_node (n_boolean true) = refl
 node_of_fields-fields_of_node (n_boolean false) = refl
@@ -117,7 +117,7 @@ node_of_fields-fields_of_node n_item = refl
 node_of_fields-fields_of_node n_no_pairs = refl
 node_of_fields-fields_of_node n_pair = refl
 
-abbrev pub nodes_code : Coded (List Node)
+abbrev pub nodes_code : Coded (List CodedNode)
 nodes_code =
     coded_list (code_by NodeFields (coded× coded_ℕ
     (coded× coded_ℤ (coded× (coded_list coded_ℕ) (coded_list coded_ℕ)))) fields_of_node

@@ -5,9 +5,10 @@ use denote.Param.Weighed.{most}
 use Rattle.value_data.specs.Inside.Nodes.{held_count, items_held, held}
 use Rattle.value_data.specs.declared.value.Value.{Value}
 use Rattle.value_data.specs.declared.value.Value.TheVariants as is
-use Rattle.value_data.specs.declared.value.Shape.{Shape}
-use Rattle.value_data.specs.declared.value.Shape.TheVariants as shape
-use Rattle.value_data.specs.declared.value.Entries.TheDeep.{deep-Value, deep-Shape, deep-Entries}
+use Rattle.value_data.specs.declared.value.ItemsShape.{ItemsShape}
+use Rattle.value_data.specs.declared.value.ItemsShape.TheVariants as shape
+use Rattle.value_data.specs.declared.value.Entries.TheDeep.{deep-Value, deep-ItemsShape}
+use Rattle.value_data.specs.declared.value.Entries.TheDeep.{deep-Entries}
 use Rattle.value_data.specs.declared.value.Entries.TheInside.{Inside}
 use Rattle.value_data.specs.Inside.Held.{EntriesData}
 
@@ -31,7 +32,7 @@ most_le-items_held : (vs : List Value) → most deep-Value vs ≤ items_held vs
 most_le-items_held [] = omega arith
 most_le-items_held (v ∷ vs) = omega (arith, deep_le-held_count v, most_le-items_held vs)
 
-pub shape-falls : (s : Shape) → max (max (deep-Shape s) 0) 0 ≤ held s
+pub shape-falls : (s : ItemsShape) → max (max (deep-ItemsShape s) 0) 0 ≤ held s
 shape-falls (shape.Leaf v) = omega (arith, most_le-items_held v.items)
 shape-falls (shape.Fork l r) = omega arith
 

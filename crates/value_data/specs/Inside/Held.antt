@@ -5,7 +5,7 @@ use Rattle.std.specs.Coded.{Coded, code_by, coded×, coded_ℕ, coded_list}
 use Rattle.value_data.specs.Datum.{Datum, Items, Pairs}
 use Rattle.value_data.specs.Inside.Code.{datum_code, items_code, pairs_code}
 
-pub record TreeData : Type 0 where
+pub record ItemsTreeData : Type 0 where
   pub items : List Datum
   pub held : ℕ
 
@@ -21,7 +21,7 @@ pub record TableData : Type 0 where
   pub pairs : Pairs
   pub held : ℕ
 
-abbrev pub tree_code : Coded TreeData
+abbrev pub tree_code : Coded ItemsTreeData
 tree_code =
     code_by (List Datum × ℕ) (coded× (coded_list datum_code) coded_ℕ) (λ t. (t.items, t.held))
     (λ p. record { items = p.0; held = p.1 }) (λ _. refl)

@@ -3,7 +3,7 @@ use Rattle.std.specs.Prelude.{◌≡◌, ℕ, ◌+◌, ◌<◌, ◌^◌, true, L
 use Rattle.value_data.specs.Datum.{Datum, Pairs}
 use Rattle.std.specs.List.{zip}
 use Rattle.value_data.specs.Listed.{listed, items_of, pairs_of}
-use Rattle.value_data.specs.Inside.Held.{TreeData, SequenceData, EntriesData, TableData}
+use Rattle.value_data.specs.Inside.Held.{ItemsTreeData, SequenceData, EntriesData, TableData}
 use Rattle.value_data.specs.Inside.View.{views}
 use Rattle.value_data.specs.Inside.Placed.{are_distinct}
 use Rattle.value_data.specs.Inside.Index.{Indexes}
@@ -11,7 +11,7 @@ use Rattle.value_data.specs.Inside.Fits.{FitsItems, FitsPeaks}
 use Rattle.value_data.specs.Inside.Seen.{MayFit}
 use Rattle.value_data.specs.declared.edits.Edited.{Edited}
 use Rattle.value_data.specs.declared.value.Value.{Value}
-use Rattle.value_data.specs.declared.value.Shape.{Shape}
+use Rattle.value_data.specs.declared.value.ItemsShape.{ItemsShape}
 use Rattle.value_data.specs.declared.value.ItemsNode.{ItemsNode}
 use Rattle.value_data.specs.declared.value.PairsNode.{PairsNode}
 
@@ -26,16 +26,16 @@ abbrev pub items_held : List Value → ℕ
 items_held [] = 0
 items_held (v ∷ vs) = held_count v + items_held vs
 
-abbrev pub held : Shape → ℕ
-held (Shape.Leaf v) = items_held v.items
-held (Shape.Fork l r) = 1 + l.held + r.held
+abbrev pub held : ItemsShape → ℕ
+held (ItemsShape.Leaf v) = items_held v.items
+held (ItemsShape.Fork l r) = 1 + l.held + r.held
 
 -- the items from left to right
-abbrev pub shown : Shape → List Datum
-shown (Shape.Leaf v) = views v.items
-shown (Shape.Fork l r) = l.items ++ r.items
+abbrev pub shown : ItemsShape → List Datum
+shown (ItemsShape.Leaf v) = views v.items
+shown (ItemsShape.Fork l r) = l.items ++ r.items
 
-abbrev pub seen : ItemsNode → TreeData
+abbrev pub seen : ItemsNode → ItemsTreeData
 seen n = record { items = shown n.shape; held = held n.shape }
 
 -- the same as a list or a vector has them

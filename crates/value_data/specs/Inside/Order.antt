@@ -38,9 +38,9 @@ abbrev pub with_sort_key : SortKey → List SortKey → List SortKey
 with_sort_key x [] = x ∷ []
 with_sort_key x (y ∷ ys) = match_ordering (order x y) (x ∷ y ∷ ys) (y ∷ ys) (y ∷ with_sort_key x ys)
 
-abbrev pub sorted : List SortKey → List SortKey
-sorted [] = []
-sorted (x ∷ xs) = with_sort_key x (sorted xs)
+abbrev pub sorted_keys : List SortKey → List SortKey
+sorted_keys [] = []
+sorted_keys (x ∷ xs) = with_sort_key x (sorted_keys xs)
 
 abbrev pub chain : List SortKey → SortKey
 chain [] = number 0
@@ -80,7 +80,7 @@ abbrev mutual
   content (list ds) = both (number (items_hash 7 ds)) (items_sort_key ds)
   content (vector ds) = both (number (items_hash 7 ds)) (items_sort_key ds)
   content (map ps) = both (number (hash (map ps)))
-      (both (number (size ps)) (chain (sorted (rows ps))))
+      (both (number (size ps)) (chain (sorted_keys (rows ps))))
   content (ref owner n) = both (owner_sort_key owner) (number n)
   content (atom n) = number n
   content (agent n) = number n

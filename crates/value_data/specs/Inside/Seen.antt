@@ -15,8 +15,8 @@ entry_view e = (view e.0.now, view e.1.now)
 abbrev pub key_in : Datum × Datum → Datum
 key_in p = p.0
 
-abbrev pub value_in : Datum × Datum → Datum
-value_in p = p.1
+abbrev pub value_of_pair : Datum × Datum → Datum
+value_of_pair p = p.1
 
 abbrev pub MayFit : Option Peaks → Pairs → Type 0
 MayFit None ps = Unit {0}

@@ -35,9 +35,9 @@ ring_versions ns None = []
 ring_versions ns (Some ring) = versions_from ns ring.count ring.newest
 
 -- each of so many places, from one on to older ones, has a node
-abbrev pub IsWithin : List Node → ℕ → ℕ → Type 0
-IsWithin ns zero i = Unit {0}
-IsWithin ns (suc n) i = (i < length ns) × IsWithin ns n (older_at ns i)
+abbrev pub IsChainWithin : List Node → ℕ → ℕ → Type 0
+IsChainWithin ns zero i = Unit {0}
+IsChainWithin ns (suc n) i = (i < length ns) × IsChainWithin ns n (older_at ns i)
 
 -- the nodes, the first that is free, and how many are
 pub record Space : Type 0 where

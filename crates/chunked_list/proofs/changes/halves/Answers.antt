@@ -1,7 +1,7 @@
 use Rattle.std.proofs.Common.{◌≡◌, ◌++◌, ◌∙◌, arith}
 use Rattle.std.proofs.lemmas.Result.{IfOk-weaker}
 use Rattle.std.specs.List.{insert}
-use Rattle.chunked_list.specs.Held.{TreeData}
+use Rattle.chunked_list.specs.Held.{NumbersTreeData}
 use Rattle.chunked_list.proofs.Changing.{insert-rest}
 use Rattle.chunked_list.proofs.changes.halves.Goals as goal
 
@@ -17,5 +17,5 @@ returns c =
     (c.in_ok-leaf-3.ensures ∙ c.in_ok-first.ensures.items)
     (c.in_ok-leaf-4.ensures ∙ c.in_ok-insert-2.ensures.items) in
     IfOk-weaker c.fork-2.result (λ made. made.items ≡ first ++ second) (λ made. made.items ≡ insert c.args.items.now c.args.place c.args.number)
-    (λ (made : TreeData) h. h ∙ all)
+    (λ (made : NumbersTreeData) h. h ∙ all)
     c.fork-2.ensures

@@ -3,4 +3,4 @@ use Rattle.chunked_list.specs.Places.{first_places}
 use Rattle.chunked_list.proofs.places.first_places.Given as goal
 
 abbrev pub invariant-loop-place : goal.invariant-loop-place
-invariant-loop-place l = record { listed : l.places.items ≡ first_places l.place; }
+invariant-loop-place l = record { numbers_listed : l.places.items ≡ first_places l.place }

@@ -1,15 +1,15 @@
 use Rattle.std.proofs.Common.{◌≡◌, ◌<◌, ◌++◌, ◌∷◌, [], None, Some, length, ap, ◌∙◌, arith, cond, Bool}
-use Rattle.ref_history.specs.Rung.{Kept, ref_at, reserved_in, room_for}
+use Rattle.ref_history.specs.Rung.{RingRefs, ref_at, reserved_in, room_for}
 use Rattle.ref_history.proofs.Ringed.{pushed-none, reserved-none, reserved-set}
 use Rattle.ref_history.proofs.ring_ref.put_at.Goals as goal
 
 pub loop-refs-preserved : goal.loop-refs-preserved
 loop-refs-preserved c =
     let e = c.put.ensures.items
-    ∙ ap (λ (xs : Kept). xs ++ None ∷ []) c.reserve.ensures.items in
+    ∙ ap (λ (xs : RingRefs). xs ++ None ∷ []) c.reserve.ensures.items in
     let was = c.loop-refs.refs.items in
     record {
-      same = λ n. ap (λ (xs : Kept). ref_at xs n) e ∙ pushed-none was n ∙ c.loop-refs.invariant.same
+      same = λ n. ap (λ (xs : RingRefs). ref_at xs n) e ∙ pushed-none was n ∙ c.loop-refs.invariant.same
           n;
       fewer = ap reserved_in e ∙ reserved-none was ∙ c.loop-refs.invariant.fewer;
     }

@@ -3,7 +3,7 @@ use Rattle.std.specs.Str.{IsUtf8}
 use Rattle.value_data.specs.Datum.{Items}
 use Rattle.value_data.specs.Inside.View.{view}
 use Rattle.repl_reader.specs.Reading.{FormReading}
-use Rattle.repl_reader.specs.Grammar.{Reads, Row}
+use Rattle.repl_reader.specs.Grammar.{Reads, ReadsRow}
 use Rattle.repl_reader.proofs.Rows.{onto}
 use Rattle.repl_reader.proofs.Owed.{Owed}
 use Rattle.repl_reader.proofs.nest.+nest.Given as goal
@@ -27,7 +27,7 @@ decreases-read_enclosed l = 5 * (65 - l.depth) + 1
 abbrev pub invariant-read_row-loop-forms : goal.invariant-read_row-loop-forms
 invariant-read_row-loop-forms l = record {
   utf8 : IsUtf8 l.text;
-  rows : (ds : Items) (r : FormReading) → Row l.depth l.text ds r → Row l.depth l.fn.text (onto (map view l.forms.items) ds) r;
+  rows : (ds : Items) (r : FormReading) → ReadsRow l.depth l.text ds r → ReadsRow l.depth l.fn.text (onto (map view l.forms.items) ds) r;
 }
 
 abbrev pub decreases-read_row-loop-forms : goal.decreases-read_row-loop-forms

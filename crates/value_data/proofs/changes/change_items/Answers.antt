@@ -3,7 +3,7 @@ use Rattle.value_data.specs.Datum.{Datum}
 use Rattle.value_data.specs.Inside.View.{view, views}
 use Rattle.value_data.specs.Inside.Fits.{FitsItems}
 use Rattle.value_data.specs.Inside.Changes.{changed}
-use Rattle.value_data.specs.declared.changes.Change.{Change}
+use Rattle.value_data.specs.declared.changes.ItemChange.{ItemChange}
 use Rattle.value_data.proofs.Changing.{views-insert, views-set, views-remove, insert-first}
 use Rattle.value_data.proofs.changes.change_items.Goals as goal
 
@@ -19,15 +19,15 @@ pub returns-else-place-eq0-clause-items : goal.returns-else-place-eq0-clause-ite
 returns-else-place-eq0-clause-items c =
     ap views c.in_ok-insert-in-Insert.ensures.items
     ∙ views-insert c.args.items.now.items c.args.place c.in-Insert.value
-    ∙ ap (λ (h : Change). changed h c.args.place (views c.args.items.now.items)) (sym c.in-Insert.is)
+    ∙ ap (λ (h : ItemChange). changed h c.args.place (views c.args.items.now.items)) (sym c.in-Insert.is)
 
 pub returns-in-Replace-clause-items : goal.returns-in-Replace-clause-items
 returns-in-Replace-clause-items c =
     views-set c.args.items.now.items c.args.place c.in-Replace.value
-    ∙ ap (λ (h : Change). changed h c.args.place (views c.args.items.now.items)) (sym c.in-Replace.is)
+    ∙ ap (λ (h : ItemChange). changed h c.args.place (views c.args.items.now.items)) (sym c.in-Replace.is)
 
 pub returns-in-Remove-clause-items : goal.returns-in-Remove-clause-items
 returns-in-Remove-clause-items c =
     ap views c.remove-taken.ensures.items
     ∙ views-remove c.args.items.now.items c.args.place
-    ∙ ap (λ (h : Change). changed h c.args.place (views c.args.items.now.items)) (sym c.in-Remove.is)
+    ∙ ap (λ (h : ItemChange). changed h c.args.place (views c.args.items.now.items)) (sym c.in-Remove.is)

@@ -10,7 +10,7 @@ use Rattle.value_data.specs.Inside.Hash.{hash}
 use Rattle.value_data.specs.Inside.View.{view}
 use Rattle.value_data.specs.Inside.Nodes.{entry_pairs}
 use Rattle.value_data.specs.Inside.Seen.{entry_view}
-use Rattle.value_data.specs.Inside.Order.{order, sort_key, chain, sorted, rows}
+use Rattle.value_data.specs.Inside.Order.{order, sort_key, chain, sorted_keys, rows}
 use Rattle.value_data.specs.Inside.Index.{row_at, rows_at}
 use Rattle.value_data.specs.declared.value.PairsNode.{PairsNode}
 use Rattle.value_data.specs.declared.value.Value.{Value}
@@ -139,7 +139,7 @@ compare_maps-returns t c =
     (ap (λ (n : PairsNode). n.entries) c.deref-3.ensures)
     (ap (λ (n : PairsNode). n.index) c.deref-4.ensures) in
     two-open-at c.then-numbers.result (nat_cmp (hash (map l)) (hash (map r))) (nat_cmp (size l) (size r))
-    (order (chain (sorted (rows l))) (chain (sorted (rows r)))) c.compare_rows.result
+    (order (chain (sorted_keys (rows l))) (chain (sorted_keys (rows r)))) c.compare_rows.result
     (sym c.is_ne.ensures ∙ c.if-is_ne.false)
     (rw (hashes, sizes) at c.then-numbers.ensures)
     (rw (ours, theirs) at c.compare_rows.ensures)

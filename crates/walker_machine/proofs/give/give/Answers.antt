@@ -1,7 +1,7 @@
 use Rattle.std.proofs.Common.{refl, ap, List}
 use Rattle.value_data.specs.Datum.{Datum, nil}
 use Rattle.value_data.specs.Inside.View.{view}
-use Rattle.evaluation_rules.specs.Rows.{last_of}
+use Rattle.evaluation_rules.specs.Rows.{value_of_last}
 use Rattle.evaluation_rules.specs.Evaluation.{value_at}
 use Rattle.walker_state.specs.Pending.{whole, place_of, kept_of, next_of}
 use Rattle.walker_state.specs.Frames.{callee_view, call_behind, items_behind}
@@ -32,7 +32,7 @@ returns-in-Choice-clause-meaning c =
     let s = c.args.state.now in
     let f = c.in-Choice in
     if_ok-turned _ _ (rw (f.is, view-Nil)
-    (ap (λ (ds : List Datum). whole s (last_of (value_at f.room (place_of s)) nil ds (next_of s) (kept_of s))) (forms-chosen (is_truthy (view c.args.value)) f.consequent f.alternative c.chosen_body-body.result c.chosen_body-body.ensures)))
+    (ap (λ (ds : List Datum). whole s (value_of_last (value_at f.room (place_of s)) nil ds (next_of s) (kept_of s))) (forms-chosen (is_truthy (view c.args.value)) f.consequent f.alternative c.chosen_body-body.result c.chosen_body-body.ensures)))
     c.next_in_body-in-Choice.ensures.meaning
 
 pub returns-in_ok-bind-in-Let-clause-meaning : goal.returns-in_ok-bind-in-Let-clause-meaning

@@ -8,7 +8,7 @@ use Rattle.walker_state.specs.Pending.{tree, tree_with_answer}
 use Rattle.walker_state.specs.Position.{TransactionPosition, control_position, wanted_position, IsOn}
 use Rattle.walker_state.specs.declared.frames.State.{State}
 use Rattle.walker_machine.specs.Waits.{stop_tree, IsOnStop}
-use Rattle.walker_machine.specs.declared.steps.Stop.{Stop}
+use Rattle.walker_machine.specs.declared.steps.AskOrEnd.{AskOrEnd}
 use Rattle.walker_machine.proofs.Beginning.{begun-work}
 use Rattle.walker_machine.proofs.Going.{begun-calls}
 use Rattle.walker_machine.proofs.steps.begin.Goals as goal
@@ -29,8 +29,8 @@ returns-in-Ends-clause-meaning c =
     let start : tree control now ≡ evaluation (job_view c.args.job.now) =
     begun-work s now c.args.job.now control c.new.ensures.items c.none.ensures c.new-2.ensures.bytes
     c.in_ok-copy_text.ensures c.of.ensures (refl, refl, refl, refl) c.in_ok-control.ensures.meaning in
-    let P : Stop → Type 0 = λ stop. stop_tree stop c.go_on.new.state ≡ tree control now in
-    let ended : P (Stop.Ends c.in-Ends.end) = subst P c.in-Ends.is c.in_ok-end.ensures.meaning in
+    let P : AskOrEnd → Type 0 = λ stop. stop_tree stop c.go_on.new.state ≡ tree control now in
+    let ended : P (AskOrEnd.Ends c.in-Ends.end) = subst P c.in-Ends.is c.in_ok-end.ensures.meaning in
     c.end_reached.ensures.meaning ∙ ended ∙ start
 
 pub returns-in_ok-state-in-Asks-clause-meaning : goal.returns-in_ok-state-in-Asks-clause-meaning
@@ -49,8 +49,8 @@ returns-in_ok-state-in-Asks-clause-meaning c =
     let start : tree control now ≡ evaluation (job_view c.args.job.now) =
     begun-work s now c.args.job.now control c.new.ensures.items c.none.ensures c.new-2.ensures.bytes
     c.in_ok-copy_text.ensures c.of.ensures (refl, refl, refl, refl) c.in_ok-control.ensures.meaning in
-    let P : Stop → Type 0 = λ stop. stop_tree stop c.go_on.new.state ≡ tree control now in
-    let asked : P (Stop.Asks c.in-Asks.ask c.in-Asks.wanted) = subst P c.in-Asks.is c.in_ok-end.ensures.meaning in
+    let P : AskOrEnd → Type 0 = λ stop. stop_tree stop c.go_on.new.state ≡ tree control now in
+    let asked : P (AskOrEnd.Asks c.in-Asks.ask c.in-Asks.wanted) = subst P c.in-Asks.is c.in_ok-end.ensures.meaning in
     let behind : State → InteractionTree =
     λ now. asks (ask_view c.in-Asks.ask) (λ answer. tree_with_answer c.in-Asks.wanted answer now) in
     ap behind c.in_ok-state-in-Asks.ensures.ok ∙ asked ∙ start
@@ -59,8 +59,8 @@ pub returns-in_ok-state-in-Asks-clause-calls : goal.returns-in_ok-state-in-Asks-
 returns-in_ok-state-in-Asks-clause-calls c =
     let control = c.in_ok-control.control in
     let old = control_position control c.begin_work.new.state in
-    let P : Stop → Type 0 = λ stop. IsOnStop stop c.go_on.new.state old in
-    let on : P (Stop.Asks c.in-Asks.ask c.in-Asks.wanted) = subst P c.in-Asks.is c.in_ok-end.ensures.on in
+    let P : AskOrEnd → Type 0 = λ stop. IsOnStop stop c.go_on.new.state old in
+    let on : P (AskOrEnd.Asks c.in-Asks.ask c.in-Asks.wanted) = subst P c.in-Asks.is c.in_ok-end.ensures.on in
     let Q : State → Type 0 = λ now. IsOn (wanted_position c.in-Asks.wanted now) old in
     let begun = begun-calls (wanted_position c.in-Asks.wanted c.in_ok-state-in-Asks.state.value) old
     (ap (λ (t : TransactionPosition). t.runs) c.in_ok-control.ensures.around)

@@ -2,7 +2,7 @@ use Rattle.std.proofs.Common.{refl, ap, ◌∙◌}
 use Rattle.std.specs.Arc.{arc_str_bytes}
 use Rattle.value_data.specs.Datum.{nil}
 use Rattle.special_forms.specs.Inside.Seen.{forms_view}
-use Rattle.evaluation_rules.specs.Rows.{last_of}
+use Rattle.evaluation_rules.specs.Rows.{value_of_last}
 use Rattle.evaluation_rules.specs.Evaluation.{value_at}
 use Rattle.walker_state.specs.Pending.{place_of}
 use Rattle.walker_state.specs.declared.frames.Transaction.{Transaction}
@@ -13,7 +13,7 @@ pub returns-then-state-eq0-clause-meaning : goal.returns-then-state-eq0-clause-m
 returns-then-state-eq0-clause-meaning c =
     let s = c.args.state.now in
     rw c.in_ok-broken_rule.ensures
-    (transaction-none s (last_of (value_at c.args.room (place_of s)) nil (forms_view c.args.body)) c.requires c.if-state-eq0.true)
+    (transaction-none s (value_of_last (value_at c.args.room (place_of s)) nil (forms_view c.args.body)) c.requires c.if-state-eq0.true)
 
 pub returns-clause-meaning : goal.returns-clause-meaning
 returns-clause-meaning c =

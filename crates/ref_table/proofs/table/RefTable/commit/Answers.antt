@@ -9,7 +9,7 @@ use Rattle.ref_table.specs.Store.{newest_value}
 use Rattle.ref_table.specs.Commit.{all_folded}
 use Rattle.ref_table.specs.Refs.{store_of}
 use Rattle.ref_table.specs.Directory.{all_named}
-use Rattle.ref_table.specs.Placing.{places_of}
+use Rattle.ref_table.specs.Placing.{placed_changes}
 use Rattle.ref_table.proofs.Committing.{acceptable, accepted, checked_commit-performs}
 use Rattle.ref_table.proofs.Committing.{refused-performs, unchanged-performs, faulted-performs}
 use Rattle.ref_table.proofs.Committing.{committed-performs, given-first, failed-first}
@@ -49,7 +49,7 @@ returns-in_ok-put_all-in-Ok-clause-committed g c = λ r points seat s runs.
     λ name. newest_value name (store_of c.args.caller points r) in
     let fit = sym c.if-not-fits.false ∙ c.fits.ensures in
     let given = given-first (all_folded value intent.commuted)
-    (λ changes. places_of d c.args.caller (intent.sets ++ changes)) _
+    (λ changes. placed_changes d c.args.caller (intent.sets ++ changes)) _
     (c.in-Ok.ensures.placed r points s) in
     checked_commit-performs stands c.put_all.new.self r c.args.caller points seat c.args.point.stamp
     intent (part_under seat points) _ true false runs
@@ -77,7 +77,7 @@ returns-in-Err-Fault-clause-committed g c = λ r points seat s runs.
     (faulted-performs stands c.args.self.now r c.args.caller points seat intent.sets
     (failure_of c.in-Err-Fault.fault) (all_folded value intent.commuted)
     (failed-first (all_folded value intent.commuted)
-    (λ changes. places_of c.args.self.now.directory c.args.caller (intent.sets ++ changes))
+    (λ changes. placed_changes c.args.self.now.directory c.args.caller (intent.sets ++ changes))
     (failure_of c.in-Err-Fault.fault) (told r points s)) s)
 
 pub returns-in_err-put_all-in-Ok-clause-accepted

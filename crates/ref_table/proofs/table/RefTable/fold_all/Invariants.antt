@@ -5,7 +5,7 @@ use Rattle.repl_asks.specs.Inside.View.{name_view, change_view, commuted_view}
 use Rattle.ref_table.specs.Numbered.{Entry}
 use Rattle.ref_table.specs.Store.{newest_value}
 use Rattle.ref_table.specs.Commit.{all_take, all_folded}
-use Rattle.ref_table.specs.Refs.{Refs, store_of}
+use Rattle.ref_table.specs.Refs.{TableRefs, store_of}
 use Rattle.ref_table.specs.Standing.{TableStands}
 use Rattle.ref_table.proofs.table.RefTable.fold_all.Given as goal
 
@@ -13,7 +13,7 @@ use Rattle.ref_table.proofs.table.RefTable.fold_all.Given as goal
 abbrev pub invariant-loop-one : goal.invariant-loop-one
 invariant-loop-one g l = record {
   takes : all_take (map commuted_view (drop l.one-index l.commuted)) ≡ true;
-  folded : (r : Refs) (points : List (Entry ℕ)) → TableStands g.H.History.stands l.self r
+  folded : (r : TableRefs) (points : List (Entry ℕ)) → TableStands g.H.History.stands l.self r
       → all_folded (λ name. newest_value name (store_of l.caller points r))
       (map commuted_view l.commuted)
       ≡ (all_folded (λ name. newest_value name (store_of l.caller points r))

@@ -1,7 +1,7 @@
 use Rattle.std.proofs.Common.{◌≡◌, ◌+◌, List, [], ◌∷◌, All, map, refl, sym, ap, ◌∙◌, subst, arith}
 use Rattle.std.proofs.lemmas.Grind.{common_steps}
 use Rattle.ref_table.specs.Commit.{with_raised_counter, with_all}
-use Rattle.ref_table.specs.Placing.{placed_view, places_of, AddsAll}
+use Rattle.ref_table.specs.Placing.{placed_view, placed_changes, AddsAll}
 use Rattle.ref_table.specs.declared.placing.Placed.{Placed}
 use Rattle.ref_table.specs.Refs.{store_of, refs_after}
 use Rattle.ref_table.specs.Standing.{TableStands}
@@ -43,7 +43,7 @@ returns-clause-put g c = λ r caller points changes s named e.
     (record t { counter = t.counter + 1; history = c.add_all.new.history }) (refs_after s r))
     (sym (with_all-some changes (store_of caller points r)
     (λ nothing. some (map_empty c.args.placed.items
-    (e ∙ ap (places_of c.args.self.now.directory caller) nothing)))))
+    (e ∙ ap (placed_changes c.args.self.now.directory caller) nothing)))))
     (all-added stands (r.counter + 1) changes (record t { counter = t.counter + 1 })
     c.add_all.new.history c.args.placed.items (with_raised_counter (store_of caller points r)) r e
     (subst (λ n. AddsAll stands (n + 1) c.reserve_all.new.history c.args.placed.items

@@ -7,7 +7,7 @@ use Rattle.repl_asks.specs.Transactions.{CommutedData}
 use Rattle.repl_asks.specs.Inside.View.{name_view, commuted_view}
 use Rattle.tx_attempt.specs.contracts.key.KeyOrd.TheImpl as order
 use Rattle.repl_asks.specs.Accesses.{is_among}
-use Rattle.tx_attempt.specs.Inside.States.{StateData, states_of, unnamed, commuted_in}
+use Rattle.tx_attempt.specs.Inside.States.{RefStateData, states_of, unnamed, commuted_in}
 use Rattle.tx_attempt.proofs.TakenOut.{names-more, names-apart, left-more, still-there}
 use Rattle.tx_attempt.proofs.TakenOut.{taken-more, taken-same, group_with}
 use Rattle.tx_attempt.proofs.states.RefStates.take_commutes.Goals as goal
@@ -27,7 +27,7 @@ loop-name-preserved c =
     let known = c.loop-name.invariant in
     let there = still-there f now done (name_view item) (known.left (name_view item))
     (names-apart names i none c.loop-name-test.true c.requires.once) in
-    let seen = λ (s : StateData). option_map {U = CommutedData} (λ d. record { name = name_view item; commutes = s.commutes }) s.value in
+    let seen = λ (s : RefStateData). option_map {U = CommutedData} (λ d. record { name = name_view item; commutes = s.commutes }) s.value in
     let all : map commuted_view c.match-take.groups.items
     ≡ filter_map (commuted_in f) (done ++ name_view item ∷ []) =
     elim c.match-take.branch [

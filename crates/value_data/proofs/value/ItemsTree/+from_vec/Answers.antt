@@ -1,6 +1,6 @@
 use Rattle.std.proofs.lemmas.Result.{IfOk-weaker}
 use Rattle.value_data.proofs.Rows.{split-views}
-use Rattle.value_data.proofs.value.Tree.+from_vec.Goals as goal
+use Rattle.value_data.proofs.value.ItemsTree.+from_vec.Goals as goal
 
 pub returns : goal.returns
 returns t c =

@@ -1,4 +1,4 @@
-use Rattle.chunked_list.proofs.tree.Tree.+count_below.Given as goal
+use Rattle.chunked_list.proofs.tree.NumbersTree.+count_below.Given as goal
 
 abbrev pub decreases-count_below : goal.decreases-count_below
 decreases-count_below l = l.self.now.held
