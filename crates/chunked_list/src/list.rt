@@ -13,9 +13,15 @@ use std::marker::Model;
 ///
 /// To find one of n numbers, to insert one and to remove one takes some log n steps, and a copy
 /// takes one.
-#[derive(Debug, Drop)]
+#[derive(Debug)]
 pub struct ChunkedList {
     pub(crate) root: Option<NumbersTree>,
+}
+
+impl Drop for ChunkedList {
+    fn drop(self) {
+        let ChunkedList { root: _root } = self;
+    }
 }
 
 impl Model for ChunkedList {

@@ -13,13 +13,23 @@ use std::marker::Model;
 ///
 /// To find the place of a rank, to put in one and to take out one takes a logarithm of steps: an item
 /// has a ticket that it keeps, and its place is the number of lesser tickets.
-#[derive(Debug, Drop)]
+#[derive(Debug)]
 pub struct RankedPlaces {
     // in the order of the items, which is their own
     tickets: ChunkedList,
     // the same by rank
     ranked: ChunkedList,
     next: usize,
+}
+
+impl Drop for RankedPlaces {
+    fn drop(self) {
+        let RankedPlaces {
+            tickets: _tickets,
+            ranked: _ranked,
+            next: _next,
+        } = self;
+    }
 }
 
 impl Model for RankedPlaces {

@@ -19,7 +19,6 @@ use crate::places::search;
 use crate::value::{Entries, PairsNode, Table, Value};
 use chunked_list::RankedPlaces;
 use std::alloc::{AllocError, Global};
-use std::sync::Arc;
 
 impl Table {
     /// The pairs with more put in, one after another: a key there keeps its place and takes the
@@ -32,7 +31,7 @@ impl Table {
         ensures { IfOk result (λ made. made.pairs
             ≡ put_pairs self.pairs (map entry_view more.now)) }
     {
-        let mut edited = Edited::of(owned_node(alloc, self)?);
+        let mut edited = Edited::of(self.into_owned_node(alloc)?);
         for (key, value) in more {
             edited = put(alloc, edited, key, value)?;
         }
@@ -82,18 +81,6 @@ impl Edited {
             None => peaks_of(&entries),
         };
         sealed_table(alloc, entries, index, peaks)
-    }
-}
-
-// What the node of the pairs holds, or copies of it where somebody else holds it too.
-fn owned_node(alloc: Global, table: Table) -> Result<PairsNode, AllocError>
-    ensures pairs { IfOk result (λ node. entry_pairs node.entries ≡ table.pairs) }
-    ensures keeps { IfOk result (λ node. KeepsPairs node) }
-{
-    let Table { node } = table;
-    match Arc::try_unwrap(node) {
-        Ok(node) => Ok(node),
-        Err(shared) => copy_node(alloc, &shared),
     }
 }
 

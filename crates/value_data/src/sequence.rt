@@ -181,11 +181,4 @@ impl Sequence {
         let ItemsTree { node } = tree;
         Sequence { node }
     }
-
-    fn into_tree(self) -> ItemsTree
-        ensures { self.items ≡ items_of result.items }
-    {
-        let Sequence { node } = self;
-        ItemsTree { node }
-    }
 }

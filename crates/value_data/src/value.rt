@@ -1,6 +1,12 @@
 // What a program computes with. Functions are no values: they are named by symbols.
+ghost use Rattle.std.specs.Prelude.{◌≡◌, IfOk};
+ghost use Rattle.value_data.specs.Listed.{items_of};
+ghost use Rattle.value_data.specs.Inside.Nodes.{KeepsPairs, entry_pairs};
+
+use crate::edits::copy_node;
 use crate::node_measures::{ItemsMeasure, Peaks};
 use chunked_list::RankedPlaces;
+use std::alloc::{AllocError, Global};
 use std::marker::Model;
 use std::sync::{Arc, ArcStr};
 
@@ -89,9 +95,25 @@ impl Model for ItemsTree {
 
 /// The items of a list or a vector, in a tree of nodes that many values may share.
 #[cycle(value)]
-#[derive(Debug, Drop)]
+#[derive(Debug)]
 pub struct Sequence {
     pub(crate) node: Arc<ItemsNode>,
+}
+
+impl Drop for Sequence {
+    #[cycle(value)]
+    fn drop(self) {
+        let Sequence { node: _node } = self;
+    }
+}
+
+impl Sequence {
+    pub(crate) fn into_tree(self) -> ItemsTree
+        ensures { self.items ≡ items_of result.items }
+    {
+        let Sequence { node } = self;
+        ItemsTree { node }
+    }
 }
 
 impl Model for Sequence {
@@ -154,9 +176,30 @@ pub(crate) struct PairsNode {
 
 /// The pairs of a map: one node, which many values may share. No two keys are equal.
 #[cycle(value)]
-#[derive(Debug, Drop)]
+#[derive(Debug)]
 pub struct Table {
     pub(crate) node: Arc<PairsNode>,
+}
+
+impl Drop for Table {
+    #[cycle(value)]
+    fn drop(self) {
+        let Table { node: _node } = self;
+    }
+}
+
+impl Table {
+    // What the node of the pairs holds, or copies of it where somebody else holds it too.
+    pub(crate) fn into_owned_node(self, alloc: Global) -> Result<PairsNode, AllocError>
+        ensures pairs { IfOk result (λ node. entry_pairs node.entries ≡ self.pairs) }
+        ensures keeps { IfOk result (λ node. KeepsPairs node) }
+    {
+        let Table { node } = self;
+        match Arc::try_unwrap(node) {
+            Ok(node) => Ok(node),
+            Err(shared) => copy_node(alloc, &shared),
+        }
+    }
 }
 
 impl Model for Table {
