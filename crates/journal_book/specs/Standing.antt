@@ -9,10 +9,14 @@ use Rattle.server_rules.specs.Machine.Turns.{whose_step}
 use Rattle.server_rules.specs.declared.refusal.Refusal.{Refusal}
 use Rattle.repl_core.specs.Configured.{IsConfigured}
 use Rattle.repl_core.specs.Standing.{MachineStands}
+use Rattle.repl_core.specs.Steps.{step_view, step_answer_view}
 use Rattle.repl_core.specs.declared.machine.Config.{Config}
 use Rattle.repl_core.specs.declared.machine.Machine.{Machine}
+use Rattle.repl_core.specs.declared.step.Refused.{Refused}
+use Rattle.repl_core.specs.declared.step.Step as code
 use Rattle.journal_book.specs.Journal.{EntryData, IsJournal}
 use Rattle.journal_book.specs.View.{entries, BookData, SeatData, seat_with}
+use Rattle.journal_book.specs.declared.book.Receipt.{Receipt}
 use Rattle.journal_book.specs.declared.book.TheConstants.{TENANTS}
 use Rattle.journal_book.specs.declared.entry.JournalEntry.{JournalEntry}
 
@@ -73,12 +77,28 @@ pub record IsDeclined
   pub book : new ≡ old
   pub seat : after ≡ before
 
+-- a step was made, and the receipt says where it stands and what it was answered
+abbrev pub Receives : BookData → BookData → SeatData → SeatData → Step → Receipt → Type 0
+Receives old new before after s r = (r.place ≡ length old.journal)
+    × IsMade old new before after s (step_answer_view r.answer)
+
+-- a step was not made, and is given back
+abbrev pub GivesBack : BookData → BookData → SeatData → SeatData → code.Step → Refused → Type 0
+GivesBack old new before after s it = (it.step ≡ s)
+    × IsDeclined old new before after (step_view s) it.why
+
 -- a tenant was opened, which has the next number
 pub record IsAdmitted (old new : BookData) (tenant : ℕ) : Type 0 where
   pub number : tenant ≡ old.tenants
   pub journal : Notes old new (entry_of (opens tenant) tenant_opened)
   pub answer : IsAnswered old.config (entries old.journal) (opens old.tenants) tenant_opened
   pub tenants : new.tenants ≡ old.tenants + 1
+
+-- these are the seats of a tenant that was opened, which is counted on its reader's
+abbrev pub AreSeatsOf : ℕ → SeatData → SeatData → SeatData → SeatData → SeatData → Type 0
+AreSeatsOf t reader worker other_worker writer runner =
+    (reader ≡ seat_with t 1) × (worker ≡ seat_with t 0) × (other_worker ≡ seat_with t 0)
+    × (writer ≡ seat_with t 0) × (runner ≡ seat_with t 0)
 
 -- no tenant is opened: a book admits no more, or the server to which the journal leads refuses the
 -- next one so, unless for want of memory

@@ -10,18 +10,17 @@ ghost use Rattle.repl_core.specs.Configured.{IsConfigured};
 ghost use Rattle.repl_core.specs.Starting.{TellsFault};
 ghost use Rattle.server_rules.specs.Inside.Wires.{wire_at};
 ghost use Rattle.repl_core.specs.Standing.{open_in};
-ghost use Rattle.repl_core.specs.Steps.{step_view, step_answer_view};
+ghost use Rattle.repl_core.specs.Steps.{step_view};
 ghost use Rattle.journal_book.specs.Ahead.{next_text_in, IsAddresseeIn};
 ghost use Rattle.journal_book.specs.Alone.{bytes_to, NamesNoSharedIn, IsHonest, own_steps};
 ghost use Rattle.journal_book.specs.Alone.{own_turns};
 ghost use Rattle.journal_book.specs.Beside.{SpellsStep};
 ghost use Rattle.journal_book.specs.Forms.{EndsAsTold};
 ghost use Rattle.journal_book.specs.Journal.{IsJournal};
-ghost use Rattle.journal_book.specs.View.{entries, seat_with};
+ghost use Rattle.journal_book.specs.View.{entries};
 ghost use Rattle.journal_book.specs.Rows.{made_row, row_of, entries_of, counted_of, all_counted};
-ghost use Rattle.journal_book.specs.Standing.{IsOwnStep, HoldsBehind, IsAdmitted, IsDeclined};
-ghost use Rattle.journal_book.specs.Standing.{IsMade};
-ghost use Rattle.journal_book.specs.Standing.{RefusesTenant};
+ghost use Rattle.journal_book.specs.Standing.{IsOwnStep, HoldsBehind, IsAdmitted, RefusesTenant};
+ghost use Rattle.journal_book.specs.Standing.{Receives, GivesBack, AreSeatsOf};
 
 use crate::beside::Beside;
 use crate::entry::JournalEntry;
@@ -229,9 +228,8 @@ impl<L: Ledger> Book<L> {
     /// has changed.
     pub fn admit(&mut self) -> Result<Places<L>, Refusal>
         ensures admitted { IfOk result (λ p. IsAdmitted self.old self.new p.tenant) }
-        ensures seats { IfOk result (λ p. (p.reader ≡ seat_with p.tenant 1)
-            × (p.worker ≡ seat_with p.tenant 0) × (p.other_worker ≡ seat_with p.tenant 0)
-            × (p.writer ≡ seat_with p.tenant 0) × (p.runner ≡ seat_with p.tenant 0)) }
+        ensures seats { IfOk result (λ p.
+            AreSeatsOf p.tenant p.reader p.worker p.other_worker p.writer p.runner) }
         ensures declined { IfErr result (λ why. (self.new ≡ self.old)
             × RefusesTenant self.old why) }
     {
@@ -261,11 +259,8 @@ impl<L: Ledger> Book<L> {
     /// refused changes nothing, and is given back.
     pub fn act(&mut self, seat: &mut Seat<L>, step: Step) -> Result<Receipt, Refused>
         requires own { IsOwnStep seat.old (step_view step) }
-        ensures made { IfOk result (λ r. (r.place ≡ length self.old.journal)
-            × IsMade self.old self.new seat.old seat.new (step_view step)
-            (step_answer_view r.answer)) }
-        ensures declined { IfErr result (λ it. (it.step ≡ step) × IsDeclined self.old self.new
-            seat.old seat.new (step_view step) it.why) }
+        ensures made { IfOk result (Receives self.old self.new seat.old seat.new (step_view step)) }
+        ensures declined { IfErr result (GivesBack self.old self.new seat.old seat.new step) }
     {
         self.act_with(seat, step, false, &mut Beside::nothing())
     }
@@ -284,11 +279,8 @@ impl<L: Ledger> Book<L> {
         requires as_told { is_known ≡ true
             → EndsAsTold (entries self.old.journal) (step_view step) }
         requires spelled { SpellsStep beside.old.aside.spelled (step_view step) }
-        ensures made { IfOk result (λ r. (r.place ≡ length self.old.journal)
-            × IsMade self.old self.new seat.old seat.new (step_view step)
-            (step_answer_view r.answer)) }
-        ensures declined { IfErr result (λ it. (it.step ≡ step) × IsDeclined self.old self.new
-            seat.old seat.new (step_view step) it.why) }
+        ensures made { IfOk result (Receives self.old self.new seat.old seat.new (step_view step)) }
+        ensures declined { IfErr result (GivesBack self.old self.new seat.old seat.new step) }
     {
         let place = self.journal.len();
         let (machine, journal) = (&mut self.machine, &mut self.journal);

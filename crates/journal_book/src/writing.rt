@@ -1,24 +1,19 @@
 // A step is made, and written down with its answer. Where it is refused nothing is written. All
 // that an entry needs of memory is taken before the step is made.
-ghost use Rattle.std.specs.Prelude.{◌≡◌, true, OnErr, IfOk, IfErr};
-ghost use Rattle.repl_asks.specs.Inside.View.{ask_view};
+ghost use Rattle.std.specs.Prelude.{◌≡◌, true, OnErr, IfErr};
 ghost use Rattle.repl_walker.specs.Ends.{ending_view};
 ghost use Rattle.server_rules.specs.Machine.World.{does, opens, closes};
-ghost use Rattle.server_rules.specs.Plan.{hears, starts, asks_for, ends, drains};
+ghost use Rattle.server_rules.specs.Plan.{hears, starts, drains};
 ghost use Rattle.server_rules.specs.Plan.{tenant_opened, tenant_gone, messages_heard, reply_given};
 ghost use Rattle.tenant_asks.specs.Answers.{ask_answer_view};
 ghost use Rattle.tenant_world.specs.Answers.{start_answer_view, end_answer_view};
 ghost use Rattle.repl_core.specs.Steps.{step_view, step_answer_view};
 ghost use Rattle.repl_core.specs.declared.step.Step as Step;
-ghost use Rattle.server_rules.specs.Ground.{Ground};
-ghost use Rattle.server_rules.specs.Grounds.{IsRight};
-ghost use Rattle.server_rules.specs.Machine.World.{World};
-ghost use Rattle.repl_core.specs.Kept.{EndsAsKept};
-ghost use Rattle.repl_core.specs.Standing.{MachineStands};
-ghost use Rattle.repl_core.specs.Steps.{AcceptsStep, RefusesStep};
 ghost use Rattle.tenant_parts.specs.Spelled.{SpellsEnd};
 ghost use Rattle.journal_book.specs.Beside.{SpellsStep};
 ghost use Rattle.journal_book.specs.Forms.{EndsAsTold};
+ghost use Rattle.journal_book.specs.Inside.Writing.{ask_step, end_step, DoesIfKnown};
+ghost use Rattle.journal_book.specs.Inside.Writing.{DeclinesIfKnown};
 ghost use Rattle.journal_book.specs.Standing.{KeepsOn, Writes, AddsOne, DeclinesEntry};
 ghost use Rattle.journal_book.specs.View.{entries};
 
@@ -218,11 +213,11 @@ fn answer_ask(
     beside: &mut Beside,
 ) -> Result<AskAnswer, Refusal>
     ensures keeps { KeepsOn machine.old journal.old.items machine.new journal.new.items }
-    ensures written { Writes (does tenant (asks_for actor (ask_view ask.now))) machine.old
-        journal.old.items journal.new.items result ask_answer_view }
+    ensures written { Writes (ask_step tenant actor ask.now) machine.old journal.old.items
+        journal.new.items result ask_answer_view }
     ensures one { AddsOne journal.old.items journal.new.items result }
-    ensures declined { DeclinesEntry (does tenant (asks_for actor (ask_view ask.now))) machine.old
-        journal.old.items result (λ why. why) }
+    ensures declined { DeclinesEntry (ask_step tenant actor ask.now) machine.old journal.old.items
+        result (λ why. why) }
     ensures stays { OnErr result (journal.new.items ≡ journal.old.items) }
 {
     let Ok(()) = journal.make_room() else {
@@ -251,15 +246,15 @@ fn end(
     is_known: bool,
     beside: &mut Beside,
 ) -> Result<EndAnswer, Refused>
-    requires told { is_known ≡ true → EndsAsTold (entries journal.old.items)
-        (does tenant (ends actor (ending_view ending.value))) }
+    requires told { is_known ≡ true
+        → EndsAsTold (entries journal.old.items) (end_step tenant actor ending.value) }
     requires spelled { SpellsEnd beside.old.aside.spelled (ending_view ending.value).end }
     ensures keeps { KeepsOn machine.old journal.old.items machine.new journal.new.items }
-    ensures written { Writes (does tenant (ends actor (ending_view ending.value))) machine.old
-        journal.old.items journal.new.items result end_answer_view }
+    ensures written { Writes (end_step tenant actor ending.value) machine.old journal.old.items
+        journal.new.items result end_answer_view }
     ensures one { AddsOne journal.old.items journal.new.items result }
-    ensures declined { DeclinesEntry (does tenant (ends actor (ending_view ending.value)))
-        machine.old journal.old.items result (λ it. it.why) }
+    ensures declined { DeclinesEntry (end_step tenant actor ending.value) machine.old
+        journal.old.items result (λ it. it.why) }
     ensures stays { OnErr result (journal.new.items ≡ journal.old.items) }
     ensures handed_back { IfErr result (λ it. it.step ≡ Step.Ended tenant actor ending) }
 {
@@ -290,14 +285,10 @@ fn end_form(
     aside: &mut Aside,
 ) -> Result<EndAnswer, Refusal>
     requires { SpellsEnd aside.old.spelled (ending_view ending.now).end }
-    ensures done { (g : Ground) (w : World) → IsRight g → MachineStands g machine.old w
-        → (is_known ≡ true → EndsAsKept w (does tenant (ends actor (ending_view ending.now))))
-        → IfOk result (λ it. AcceptsStep g w (does tenant (ends actor (ending_view ending.now)))
-        machine.new (end_answer_view it)) }
-    ensures refused { (g : Ground) (w : World) → IsRight g → MachineStands g machine.old w
-        → (is_known ≡ true → EndsAsKept w (does tenant (ends actor (ending_view ending.now))))
-        → IfErr result (RefusesStep g w (does tenant (ends actor (ending_view ending.now)))
-        machine.new) }
+    ensures done { DoesIfKnown is_known (end_step tenant actor ending.now) machine.old machine.new
+        result end_answer_view }
+    ensures refused { DeclinesIfKnown is_known (end_step tenant actor ending.now) machine.old
+        machine.new result }
 {
     if is_known {
         machine.end_known(tenant, actor, ending, aside)

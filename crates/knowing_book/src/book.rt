@@ -1,11 +1,9 @@
 // The book, what is known of its journal, and where the last entries of actors stand.
 ghost use Rattle.std.specs.Prelude.{ℕ, ◌≡◌, ◌+◌, List, [], ◌∷◌, ◌++◌, true};
 ghost use Rattle.std.specs.Prelude.{IfOk, IfErr, IfSome, Some, length};
-ghost use Rattle.repl_asks.specs.Inside.View.{ask_view, answer_view};
 ghost use Rattle.repl_asks.specs.Inside.Jobs.{job_view};
 ghost use Rattle.repl_walker.specs.Ends.{ending_view};
-ghost use Rattle.server_rules.specs.Plan.{starts, asks_for, ends};
-ghost use Rattle.server_rules.specs.Plan.{form_begun, ask_answered};
+ghost use Rattle.server_rules.specs.Plan.{starts, form_begun};
 ghost use Rattle.server_rules.specs.Machine.World.{does, closes};
 ghost use Rattle.server_rules.specs.Request.{Run};
 ghost use Rattle.repl_core.specs.Forms.{form_by_step};
@@ -15,11 +13,12 @@ ghost use Rattle.journal_book.specs.Beside.{SpellsStep};
 ghost use Rattle.journal_book.specs.Forms.{form_of, form_told, EndsAsTold};
 ghost use Rattle.journal_book.specs.Journal.{EntryData};
 ghost use Rattle.journal_book.specs.Standing.{IsOwnStep, IsAdmitted, IsDeclined, IsMade};
-ghost use Rattle.journal_book.specs.Standing.{RefusesTenant, entry_of};
-ghost use Rattle.journal_book.specs.View.{entries, seat_with};
+ghost use Rattle.journal_book.specs.Standing.{Receives, GivesBack, AreSeatsOf, RefusesTenant};
+ghost use Rattle.journal_book.specs.Standing.{entry_of};
+ghost use Rattle.journal_book.specs.View.{entries};
 ghost use Rattle.knowing_book.specs.Keys.{entry_key, last_by};
 ghost use Rattle.knowing_book.specs.Knowledge.{Knows, Shares};
-ghost use Rattle.knowing_book.specs.View.{IsOf, MakesOne};
+ghost use Rattle.knowing_book.specs.View.{MakesOne, TellsAnswer, question_step, finish_step};
 
 use crate::forms::{Answered, Begun, Fact, Finish, Question};
 use crate::keys::{actor_key, step_key};
@@ -142,9 +141,8 @@ impl<L: Ledger, N: Naming> KnowingBook<L, N> {
     /// Opens the next tenant, as the book does.
     pub fn admit(&mut self) -> Result<Places<L>, Refusal>
         ensures admitted { IfOk result (λ p. IsAdmitted self.old self.new p.tenant) }
-        ensures seats { IfOk result (λ p. (p.reader ≡ seat_with p.tenant 1)
-            × (p.worker ≡ seat_with p.tenant 0) × (p.other_worker ≡ seat_with p.tenant 0)
-            × (p.writer ≡ seat_with p.tenant 0) × (p.runner ≡ seat_with p.tenant 0)) }
+        ensures seats { IfOk result (λ p.
+            AreSeatsOf p.tenant p.reader p.worker p.other_worker p.writer p.runner) }
         ensures declined { IfErr result (λ why. (self.new ≡ self.old)
             × RefusesTenant self.old why) }
     {
@@ -158,11 +156,8 @@ impl<L: Ledger, N: Naming> KnowingBook<L, N> {
     /// Makes a step of the seat's tenant, as the book does.
     pub fn act(&mut self, seat: &mut Seat<L>, step: Step) -> Result<Receipt, Refused>
         requires own { IsOwnStep seat.old (step_view step) }
-        ensures made { IfOk result (λ r. (r.place ≡ length self.old.journal)
-            × IsMade self.old self.new seat.old seat.new (step_view step)
-            (step_answer_view r.answer)) }
-        ensures declined { IfErr result (λ it. (it.step ≡ step) × IsDeclined self.old self.new
-            seat.old seat.new (step_view step) it.why) }
+        ensures made { IfOk result (Receives self.old self.new seat.old seat.new (step_view step)) }
+        ensures declined { IfErr result (GivesBack self.old self.new seat.old seat.new step) }
     {
         self.make(seat, step, false, &mut Beside::nothing())
     }
@@ -231,12 +226,9 @@ impl<L: Ledger, N: Naming> KnowingBook<L, N> {
         beside: &mut Beside,
     ) -> Result<Option<Answered<N>>, Unasked<N>>
         ensures made { IfOk result (λ it. MakesOne self.old self.new seat.old seat.new
-            (does seat.old.tenant (asks_for question.actor (ask_view question.ask)))
-            (λ answer. IfSome it (λ told. IsOf told.question question
-            × (answer ≡ ask_answered (answer_view told.answer))))) }
-        ensures declined { IfErr result (λ it. (it.question ≡ question)
-            × IsDeclined self.old self.new seat.old seat.new
-            (does seat.old.tenant (asks_for question.actor (ask_view question.ask))) it.why) }
+            (question_step seat.old.tenant question) (TellsAnswer question it)) }
+        ensures declined { IfErr result (λ it. (it.question ≡ question) × IsDeclined self.old
+            self.new seat.old seat.new (question_step seat.old.tenant question) it.why) }
     {
         let Question { fact, walk, ask } = question;
         let tenant = seat.tenant();
@@ -280,13 +272,10 @@ impl<L: Ledger, N: Naming> KnowingBook<L, N> {
         finish: Finish<N>,
         beside: &mut Beside,
     ) -> Result<Receipt, Unended<N>>
-        ensures made { IfOk result (λ r. (r.place ≡ length self.old.journal)
-            × IsMade self.old self.new seat.old seat.new
-            (does seat.old.tenant (ends finish.actor (ending_view finish.ending)))
-            (step_answer_view r.answer)) }
-        ensures declined { IfErr result (λ it. (it.finish ≡ finish)
-            × IsDeclined self.old self.new seat.old seat.new
-            (does seat.old.tenant (ends finish.actor (ending_view finish.ending))) it.why) }
+        ensures made { IfOk result (Receives self.old self.new seat.old seat.new
+            (finish_step seat.old.tenant finish)) }
+        ensures declined { IfErr result (λ it. (it.finish ≡ finish) × IsDeclined self.old self.new
+            seat.old seat.new (finish_step seat.old.tenant finish) it.why) }
     {
         let Finish {
             fact,
@@ -330,11 +319,8 @@ impl<L: Ledger, N: Naming> KnowingBook<L, N> {
         requires as_told { is_known ≡ true
             → EndsAsTold (entries self.old.journal) (step_view step) }
         requires spelled { SpellsStep beside.old.aside.spelled (step_view step) }
-        ensures made { IfOk result (λ r. (r.place ≡ length self.old.journal)
-            × IsMade self.old self.new seat.old seat.new (step_view step)
-            (step_answer_view r.answer)) }
-        ensures declined { IfErr result (λ it. (it.step ≡ step) × IsDeclined self.old self.new
-            seat.old seat.new (step_view step) it.why) }
+        ensures made { IfOk result (Receives self.old self.new seat.old seat.new (step_view step)) }
+        ensures declined { IfErr result (GivesBack self.old self.new seat.old seat.new step) }
     {
         let key = step_key(&step);
         let is_end = matches!(step, Step::Ended(_, _, _));

@@ -1,5 +1,6 @@
 -- A driver stands for the server of the rules, with the evaluations of all forms that run.
-use Rattle.std.specs.Prelude.{◌≡◌, ℕ, List}
+use Rattle.std.specs.Prelude.{◌≡◌, ◌≢◌, ℕ, List, Option, Vec, Result, IfOk, IfErr}
+use Rattle.std.specs.declared.alloc.Global.{Global}
 use Rattle.server_rules.specs.Ground.{Ground}
 use Rattle.server_rules.specs.Plan.{StepAnswer}
 use Rattle.server_rules.specs.Machine.Turns.{Turn, turn_step}
@@ -10,6 +11,7 @@ use Rattle.server_rules.specs.Grounds.{IsRight}
 use Rattle.repl_core.specs.Grounds.{Evaluates}
 use Rattle.repl_core.specs.Standing as machine
 use Rattle.repl_core.specs.Standing.{open_in}
+use Rattle.machine_runs.specs.Turns.{piece_given}
 use Rattle.machine_runs.specs.declared.driver.Driver.{Driver}
 use Rattle.machine_runs.specs.AllWalks.{walks_at, IsWalkedAt}
 
@@ -33,3 +35,15 @@ pub record RefusesTurn (g : Ground) (w : World) (turn : Turn) (d : Driver)
     (why : Refusal) : Type 0 where
   pub refused : turn_step g w turn ≡ refused why
   pub stands : DriverStands g d w
+
+-- What is promised of a call that makes a turn, for every server for which the driver stood.
+
+-- where it succeeds the turn is accepted, and gives this reply if it gives one
+abbrev pub DoesTurn : Turn → Driver → Driver → Result (Option (Vec ℕ Global)) Refusal → Type 0
+DoesTurn turn old new result = (g : Ground) (w : World) → DriverStands g old w
+    → IfOk result (λ it. AcceptsTurn g w turn new (piece_given it))
+
+-- where it fails the turn is refused so, unless for want of memory
+abbrev pub DeclinesTurn : {A : Type 0} → Turn → Driver → Driver → Result A Refusal → Type 0
+DeclinesTurn turn old new result = (g : Ground) (w : World) → DriverStands g old w
+    → IfErr result (λ why. why ≢ Refusal.NoMemory → RefusesTurn g w turn new why)

@@ -1,9 +1,9 @@
 // A server that makes turns.
-ghost use Rattle.std.specs.Prelude.{◌≡◌, ◌≢◌, IfOk, IfErr, OnOk};
+ghost use Rattle.std.specs.Prelude.{◌≡◌, IfOk, IfErr, OnOk};
 ghost use Rattle.server_rules.specs.Ground.{Ground};
 ghost use Rattle.server_rules.specs.Machine.Turns.{given, goes};
 ghost use Rattle.server_rules.specs.Plan.{bytes_in};
-ghost use Rattle.server_rules.specs.Machine.World.{World, closes, opened_world};
+ghost use Rattle.server_rules.specs.Machine.World.{closes, opened_world};
 ghost use Rattle.repl_core.specs.Going.{StepKeepsForms};
 ghost use Rattle.repl_core.specs.Steps.{step_view, step_answer_view};
 ghost use Rattle.repl_core.specs.Configured.{IsConfigured};
@@ -25,7 +25,7 @@ pub(crate) struct Driver {
 }
 
 impl Driver {
-    ghost use Rattle.machine_runs.specs.Driver.{DriverStands, AcceptsTurn, RefusesTurn};
+    ghost use Rattle.machine_runs.specs.Driver.{DriverStands, DoesTurn, DeclinesTurn};
 
     pub(crate) fn new(alloc: Global, config: &Config) -> Result<Driver, LoadError>
         ensures stands { (g : Ground) → IsConfigured g config.now
@@ -45,10 +45,8 @@ impl Driver {
     /// Makes a turn, and gives the reply where one was taken out. Where memory is refused, the
     /// evaluations of a tenant may be lost; they are made again when their actors go on.
     pub(crate) fn turn(&mut self, turn: &Turn) -> Result<Option<Vec<u8>>, Refusal>
-        ensures done { (g : Ground) (w : World) → DriverStands g self.old w → IfOk result
-            (λ it. AcceptsTurn g w (turn_view turn.now) self.new (piece_given it)) }
-        ensures refused { (g : Ground) (w : World) → DriverStands g self.old w → IfErr result
-            (λ why. why ≢ Refusal.NoMemory → RefusesTurn g w (turn_view turn.now) self.new why) }
+        ensures done { DoesTurn (turn_view turn.now) self.old self.new result }
+        ensures refused { DeclinesTurn (turn_view turn.now) self.old self.new result }
     {
         match turn {
             Turn::Open(number) => self.step(Step::Open(*number)),
@@ -61,11 +59,8 @@ impl Driver {
 
     // A tenant goes, and the evaluations of its forms with it.
     fn bye(&mut self, number: u64) -> Result<Option<Vec<u8>>, Refusal>
-        ensures done { (g : Ground) (w : World) → DriverStands g self.old w → IfOk result
-            (λ it. AcceptsTurn g w (given (closes number)) self.new (piece_given it)) }
-        ensures refused { (g : Ground) (w : World) → DriverStands g self.old w → IfErr result
-            (λ why. why ≢ Refusal.NoMemory
-            → RefusesTurn g w (given (closes number)) self.new why) }
+        ensures done { DoesTurn (given (closes number)) self.old self.new result }
+        ensures refused { DeclinesTurn (given (closes number)) self.old self.new result }
     {
         let nothing = self.step(Step::Bye(number))?;
         self.kept.forget(number);
@@ -75,11 +70,8 @@ impl Driver {
     // Makes a step by which no form goes on.
     fn step(&mut self, step: Step) -> Result<Option<Vec<u8>>, Refusal>
         requires { StepKeepsForms (step_view step) }
-        ensures done { (g : Ground) (w : World) → DriverStands g self.old w → IfOk result
-            (λ it. AcceptsTurn g w (given (step_view step)) self.new (piece_given it)) }
-        ensures refused { (g : Ground) (w : World) → DriverStands g self.old w → IfErr result
-            (λ why. why ≢ Refusal.NoMemory
-            → RefusesTurn g w (given (step_view step)) self.new why) }
+        ensures done { DoesTurn (given (step_view step)) self.old self.new result }
+        ensures refused { DeclinesTurn (given (step_view step)) self.old self.new result }
     {
         match self.machine.step(step) {
             Ok(answer) => Ok(reply_in(answer)),
@@ -89,10 +81,8 @@ impl Driver {
 
     // An actor goes on.
     fn go(&mut self, number: u64, actor: Actor) -> Result<Option<Vec<u8>>, Refusal>
-        ensures done { (g : Ground) (w : World) → DriverStands g self.old w → IfOk result
-            (λ it. AcceptsTurn g w (goes number actor) self.new (piece_given it)) }
-        ensures refused { (g : Ground) (w : World) → DriverStands g self.old w → IfErr result
-            (λ why. why ≢ Refusal.NoMemory → RefusesTurn g w (goes number actor) self.new why) }
+        ensures done { DoesTurn (goes number actor) self.old self.new result }
+        ensures refused { DeclinesTurn (goes number actor) self.old self.new result }
     {
         let mut walks = self.kept.take(self.alloc, number);
         let result = self.machine.go(number, actor, &mut walks);

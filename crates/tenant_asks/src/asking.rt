@@ -1,36 +1,31 @@
 // A form asks.
-ghost use Rattle.std.specs.Prelude.{◌≡◌, ◌≢◌, ◌<◌, ◌∷◌, [], true, false, None, Some, Err};
-ghost use Rattle.std.specs.Prelude.{IfOk, OnOk, IfErr, OnErr, MatchOption, is_some, map};
+ghost use Rattle.std.specs.Prelude.{◌≡◌, ◌≢◌, ◌<◌, true, false, None, Some, Err};
+ghost use Rattle.std.specs.Prelude.{IfOk, OnOk, OnErr, is_some, map};
 ghost use Rattle.std.specs.Arc.{arc_value};
 ghost use Rattle.repl_asks.specs.Inside.View.{ask_view, sending_view};
-ghost use Rattle.repl_replies.specs.Replies.{interrupted};
 ghost use Rattle.repl_replies.specs.Inside.View.{origin_view};
-ghost use Rattle.server_rules.specs.Ground.{Ground};
-ghost use Rattle.server_rules.specs.Request as rules;
-ghost use Rattle.server_rules.specs.Tenant.{TenantState, seat_of, with_replies};
-ghost use Rattle.server_rules.specs.Replying.{reply};
+ghost use Rattle.server_rules.specs.Tenant.{seat_of};
 ghost use Rattle.ref_table.specs.Calls.{performed};
 ghost use Rattle.server_rules.specs.Cells.{with_sends_if, must_wait};
-ghost use Rattle.ref_table.specs.Store.{Store, left_attempt};
+ghost use Rattle.ref_table.specs.Store.{Store};
 ghost use Rattle.server_rules.specs.Asking.{call_of, sender_of, session_number};
 ghost use Rattle.server_rules.specs.Asking as meant;
-ghost use Rattle.ref_table.specs.Refs.{TableRefs, refs_after};
+ghost use Rattle.ref_table.specs.Refs.{TableRefs};
 ghost use Rattle.ref_table.specs.Standing.{counter_of};
 ghost use Rattle.tenant_parts.specs.View.{actor_view, hand_view};
-ghost use Rattle.server_rules.specs.DeedResult.{carried_out};
-ghost use Rattle.tenant_asks.specs.Memories.{Remembers, opened_by};
+ghost use Rattle.tenant_asks.specs.Memories.{opened_by};
 ghost use Rattle.tenant_asks.specs.Answers.{ask_answer_view, AreSameAnswers};
-ghost use Rattle.tenant_asks.specs.Acting.{AcceptsOutcome, RefusesOutcome, IsActorStep};
-ghost use Rattle.tenant_asks.specs.Acting.{is_accepted};
-ghost use Rattle.tenant_asks.specs.Asking.{Answers, answered_plan, is_of_names};
+ghost use Rattle.tenant_asks.specs.Asking.{is_of_names};
 ghost use Rattle.tenant_asks.specs.Asking.{is_of_cells, why_waiting};
 ghost use Rattle.tenant_asks.specs.Sends.{committed_sends, is_told_yes, sender_view};
 ghost use Rattle.tenant_asks.specs.Cells.{cells_data};
-ghost use Rattle.tenant_asks.specs.Promises.{ServesAsk, site};
+ghost use Rattle.tenant_asks.specs.Promises.{ServesAsk, site, holdings, performed_ask};
+ghost use Rattle.tenant_asks.specs.Promises.{AcceptsAnswer, RefusesAnswer, LacksMemoryForAnswer};
+ghost use Rattle.tenant_asks.specs.Promises.{GivesUp, StaysUntold, AnswersIfTold, HoldsStill};
 ghost use Rattle.tenant_asks.specs.Rooms.{ActorHasRoom};
 ghost use Rattle.tenant_parts.specs.Promises.{TellsCall, ServesStill, CountsOne, CountsIfTold};
 ghost use Rattle.tenant_parts.specs.Serving.{ServesWithAttempts};
-ghost use Rattle.tenant_parts.specs.AnswerCopies.{copies_view, told_answer, AreCopies};
+ghost use Rattle.tenant_parts.specs.AnswerCopies.{told_answer, AreCopies};
 
 use crate::acting::interrupt;
 use crate::answers::{AskAnswer, AskAnswers};
@@ -184,22 +179,15 @@ fn give_up(
     origin: &Arc<Origin>,
     ask: &Ask,
 ) -> Result<(), Refusal>
-    ensures gone { (g : Ground) (q : TenantState) (s : Store) (r : TableRefs)
-        → Remembers g s.tenant memory.old q → ServesWithAttempts refs.now attempts.old s r
-        → OnOk result
-        ((is_some (performed s (call_of (seat_of actor) (ask_view ask.now))).told ≡ true)
-        × Remembers g s.tenant memory.new
-        (with_replies (reply (origin_view (arc_value origin.now)) interrupted ∷ []) q)
-        × ServesWithAttempts refs.now attempts.new (left_attempt (seat_of actor) s)
-        (refs_after (left_attempt (seat_of actor) s) r)) }
-    ensures stays { (g : Ground) (q : TenantState) (s : Store) (r : TableRefs)
-        → Remembers g s.tenant memory.old q → ServesWithAttempts refs.now attempts.old s r
-        → IfErr result (λ why. (why ≢ Refusal.NoMemory → (why ≡ Refusal.Idle)
-        × ((performed s (call_of (seat_of actor) (ask_view ask.now))).told ≡ None))
-        × Remembers g s.tenant memory.new q × ServesWithAttempts refs.now attempts.new s r) }
+    ensures gone { GivesUp actor (ask_view ask.now) (origin_view (arc_value origin.now))
+        (holdings memory.old refs.now attempts.old) (holdings memory.new refs.now attempts.new)
+        result }
+    ensures stays { StaysUntold actor (ask_view ask.now)
+        (holdings memory.old refs.now attempts.old) (holdings memory.new refs.now attempts.new)
+        result }
     ensures no_memory { (s : Store) (r : TableRefs) → ServesWithAttempts refs.now attempts.old s r
         → result ≡ Err Refusal.NoMemory
-        → is_some (performed s (call_of (seat_of actor) (ask_view ask.now))).told ≡ true }
+        → is_some (performed_ask actor (ask_view ask.now) s).told ≡ true }
     ensures opened { opened_by memory.new ≡ opened_by memory.old }
     ensures free { result ≢ Err Refusal.Held }
 {
@@ -224,29 +212,14 @@ fn answer(
 ) -> Result<AskAnswers, Refusal>
     requires counted { counter_of refs.old < u128.MAX }
     requires hand { is_some state.old.hand ≡ true }
-    ensures acted { (g : Ground) (q : TenantState) (s : Store) (r : TableRefs) (h : rules.WorkInHand)
-        (run : rules.Run) → Remembers g s.tenant memory.old q
-        → ServesWithAttempts refs.old attempts.old s r
-        → meant.is_allowed (ask_view ask.now) q.cells ≡ true
-        → (actor_view state.old).hand ≡ Some h → h.running ≡ Some run
-        → let d = carried_out s (answered_plan g actor (actor_view state.old) h run
-        (ask_view ask.now) q) in IfOk result
-        (λ x. AcceptsOutcome g s.tenant actor q d.outcome memory.new
-        (actor_view state.new) (ask_answer_view x.given)
-        × ServesWithAttempts refs.new attempts.new d.store (refs_after d.store r)) }
-    ensures declined { (g : Ground) (q : TenantState) (s : Store) (r : TableRefs) (h : rules.WorkInHand)
-        (run : rules.Run) → Remembers g s.tenant memory.old q
-        → ServesWithAttempts refs.old attempts.old s r
-        → meant.is_allowed (ask_view ask.now) q.cells ≡ true
-        → let d = carried_out s (answered_plan g actor (actor_view state.old) h run
-        (ask_view ask.now) q) in IfErr result (λ why.
-        RefusesOutcome g s.tenant q d.outcome memory.new why
-        × ServesWithAttempts refs.new attempts.new s r) }
-    ensures no_memory { (g : Ground) (q : TenantState) (s : Store) (r : TableRefs) (h : rules.WorkInHand)
-        (run : rules.Run) → Remembers g s.tenant memory.old q
-        → ServesWithAttempts refs.old attempts.old s r → result ≡ Err Refusal.NoMemory
-        → is_accepted (carried_out s (answered_plan g actor (actor_view state.old) h run
-        (ask_view ask.now) q)).outcome ≡ true }
+    ensures acted { AcceptsAnswer actor (ask_view ask.now)
+        (site memory.old refs.old attempts.old (actor_view state.old))
+        (site memory.new refs.new attempts.new (actor_view state.new)) result }
+    ensures declined { RefusesAnswer actor (ask_view ask.now)
+        (site memory.old refs.old attempts.old (actor_view state.old))
+        (site memory.new refs.new attempts.new (actor_view state.new)) result }
+    ensures no_memory { LacksMemoryForAnswer actor (ask_view ask.now)
+        (site memory.old refs.old attempts.old (actor_view state.old)) result }
     ensures same { IfOk result AreSameAnswers }
     ensures stays { OnErr result (actor_view state.new ≡ actor_view state.old) }
     ensures opened { opened_by memory.new ≡ opened_by memory.old }
@@ -284,10 +257,10 @@ fn why_refused(
 ) -> Refusal
     ensures idle { (s : Store) (r : TableRefs) → ServesWithAttempts refs.now attempts.now s r
         → result ≢ Refusal.NoMemory → (result ≡ Refusal.Idle)
-        × ((performed s (call_of (seat_of actor) (ask_view ask.now))).told ≡ None) }
+        × ((performed_ask actor (ask_view ask.now) s).told ≡ None) }
     ensures no_memory { (s : Store) (r : TableRefs) → ServesWithAttempts refs.now attempts.now s r
         → result ≡ Refusal.NoMemory
-        → is_some (performed s (call_of (seat_of actor) (ask_view ask.now))).told ≡ true }
+        → is_some (performed_ask actor (ask_view ask.now) s).told ≡ true }
     ensures free { result ≢ Refusal.Held }
 {
     if is_told(alloc, refs, attempts, actor, ask) {
@@ -329,19 +302,11 @@ fn perform_ask(
     ask: &Ask,
 ) -> Result<Option<AnswerCopies>, AllocError>
     requires { counter_of refs.old < u128.MAX }
-    ensures answered { (g : Ground) (q : TenantState) (s : Store) (r : TableRefs)
-        → Remembers g s.tenant memory.old q → ServesWithAttempts refs.old attempts.old s r
-        → meant.is_allowed (ask_view ask.now) q.cells ≡ true
-        → let p = performed s (call_of (seat_of actor) (ask_view ask.now)) in
-        IfOk result (λ it. MatchOption it
-        ((p.told ≡ None) × Remembers g s.tenant memory.new q
-        × ServesWithAttempts refs.new attempts.new s r)
-        (λ answer. Answers g s.tenant actor (sender_of actor (hand_view hand.now)) q
-        (ask_view ask.now) p memory.new refs.new attempts.new r (copies_view answer))) }
-    ensures stays { (g : Ground) (q : TenantState) (s : Store) (r : TableRefs)
-        → Remembers g s.tenant memory.old q → ServesWithAttempts refs.old attempts.old s r
-        → OnErr result (Remembers g s.tenant memory.new q
-        × ServesWithAttempts refs.new attempts.new s r) }
+    ensures answered { AnswersIfTold actor (sender_of actor (hand_view hand.now))
+        (ask_view ask.now) (holdings memory.old refs.old attempts.old)
+        (holdings memory.new refs.new attempts.new) result }
+    ensures stays { HoldsStill (holdings memory.old refs.old attempts.old)
+        (holdings memory.new refs.new attempts.new) result }
     ensures opened { opened_by memory.new ≡ opened_by memory.old }
     ensures counted { CountsIfTold refs.old refs.new result }
     ensures copies { IfOk result AreCopies }

@@ -7,3 +7,4 @@ pub mod Running
 pub mod Standing
 pub mod Promises
 pub mod Actions
+pub mod FormEnds

@@ -1,26 +1,27 @@
 // An evaluation comes back at its end.
-ghost use Rattle.std.specs.Prelude.{◌≡◌, ◌≢◌, ℕ, Some, IfOk, OnOk, IfErr, OnErr, ◌<◌, Err};
-ghost use Rattle.std.specs.Prelude.{true, option_map};
+ghost use Rattle.std.specs.Prelude.{◌≡◌, ◌≢◌, ℕ, Some, OnOk, IfErr, OnErr, ◌<◌, Err};
+ghost use Rattle.std.specs.Prelude.{option_map};
 ghost use Rattle.repl_asks.specs.Inside.Jobs.{finished_view};
 ghost use Rattle.server_rules.specs.Ground.{Ground};
 ghost use Rattle.server_rules.specs.Request as rules;
 ghost use Rattle.ref_table.specs.Store.{Store};
 ghost use Rattle.server_rules.specs.Tenant.{TenantState};
-ghost use Rattle.server_rules.specs.Ending.{end_of, end_accepted};
+ghost use Rattle.server_rules.specs.Ending.{end_accepted};
 ghost use Rattle.tenant_parts.specs.Spelled.{SpellsEnd};
 ghost use Rattle.tenant_parts.specs.View.{actor_view, run_view};
 ghost use Rattle.server_rules.specs.Grounds.{IsRight};
 ghost use Rattle.server_rules.specs.DeedResult.{carried_out};
 ghost use Rattle.tenant_asks.specs.Memories.{Remembers, opened_by};
-ghost use Rattle.tenant_world.specs.Answers.{end_answer_view, told_ending};
-ghost use Rattle.tenant_parts.specs.Attempts.{Reaches};
-ghost use Rattle.tenant_asks.specs.Acting.{AcceptsOutcome, RefusesOutcome, IsActorStep};
-ghost use Rattle.tenant_asks.specs.Acting.{is_accepted};
+ghost use Rattle.tenant_world.specs.Answers.{told_ending};
+ghost use Rattle.tenant_asks.specs.Acting.{AcceptsOutcome, IsActorStep};
 ghost use Rattle.tenant_world.specs.Comparing.{ending_refusal, refusal_in, compared_run};
 ghost use Rattle.tenant_world.specs.Comparing.{PassesComparison, FailsComparison};
 ghost use Rattle.server_rules.specs.Plan.{form_finished};
 ghost use Rattle.repl_asks.specs.Job.{EndingData};
 ghost use Rattle.tenant_moves.specs.Endings.{hand_after};
+ghost use Rattle.tenant_world.specs.FormEnds.{AcceptsEnd, RefusesEnd, LacksMemoryForEnd};
+ghost use Rattle.tenant_world.specs.FormEnds.{AcceptsFinish, RefusesFinish, LacksMemoryForFinish};
+ghost use Rattle.tenant_world.specs.FormEnds.{end_site};
 
 use crate::actions::{prepare_end, settle_end};
 use crate::answers::{EndAnswer, EndedEvaluation};
@@ -45,22 +46,14 @@ pub(crate) fn end(
     aside: &mut Aside,
 ) -> Result<EndAnswer, Refusal>
     requires { SpellsEnd aside.old.spelled (told_ending ending.now).end }
-    ensures acted { (g : Ground) (q : TenantState) (s : Store) → IsRight g
-        → Remembers g s.tenant memory.old q → Reaches attempts.old s
-        → let d = carried_out s (end_of g actor (actor_view state.old) (told_ending ending.now) q
-        (actor_view state.old).hand) in IfOk result (λ x.
-        AcceptsOutcome g s.tenant actor q d.outcome memory.new (actor_view state.new)
-        (end_answer_view x)
-        × Reaches attempts.new d.store) }
-    ensures declined { (g : Ground) (q : TenantState) (s : Store) → IsRight g
-        → Remembers g s.tenant memory.old q → Reaches attempts.old s
-        → let d = carried_out s (end_of g actor (actor_view state.old) (told_ending ending.now) q
-        (actor_view state.old).hand) in IfErr result (λ why.
-        RefusesOutcome g s.tenant q d.outcome memory.new why × Reaches attempts.new s) }
-    ensures no_memory { (g : Ground) (q : TenantState) (s : Store) → IsRight g
-        → Remembers g s.tenant memory.old q → result ≡ Err Refusal.NoMemory
-        → is_accepted (carried_out s (end_of g actor (actor_view state.old)
-        (told_ending ending.now) q (actor_view state.old).hand)).outcome ≡ true }
+    ensures acted { AcceptsEnd actor (told_ending ending.now)
+        (end_site memory.old attempts.old (actor_view state.old))
+        (end_site memory.new attempts.new (actor_view state.new)) result }
+    ensures declined { RefusesEnd actor (told_ending ending.now)
+        (end_site memory.old attempts.old (actor_view state.old))
+        (end_site memory.new attempts.new (actor_view state.new)) result }
+    ensures no_memory { LacksMemoryForEnd actor (told_ending ending.now)
+        (end_site memory.old attempts.old (actor_view state.old)) result }
     ensures step { IsActorStep memory.old memory.new (actor_view state.old) (actor_view state.new)
         result }
 {
@@ -88,23 +81,14 @@ pub(crate) fn finish(
     aside: &mut Aside,
 ) -> Result<EndAnswer, Refusal>
     requires { SpellsEnd aside.old.spelled (finished_view finished.now) }
-    ensures acted { (g : Ground) (q : TenantState) (s : Store) (e : EndingData)
-        → e.end ≡ finished_view finished.now → PassesComparison g (actor_view state.old) q e
-        → Remembers g s.tenant memory.old q → Reaches attempts.old s
-        → let d = carried_out s (end_of g actor (actor_view state.old) e q
-        (actor_view state.old).hand) in IfOk result (λ x.
-        AcceptsOutcome g s.tenant actor q d.outcome memory.new (actor_view state.new)
-        (end_answer_view x)
-        × Reaches attempts.new d.store) }
-    ensures declined { (g : Ground) (q : TenantState) (s : Store) (e : EndingData)
-        → Remembers g s.tenant memory.old q → Reaches attempts.old s
-        → let d = carried_out s (end_of g actor (actor_view state.old) e q
-        (actor_view state.old).hand) in IfErr result (λ why.
-        RefusesOutcome g s.tenant q d.outcome memory.new why × Reaches attempts.new s) }
-    ensures no_memory { (g : Ground) (q : TenantState) (s : Store) (e : EndingData)
-        → PassesComparison g (actor_view state.old) q e → Remembers g s.tenant memory.old q
-        → result ≡ Err Refusal.NoMemory → is_accepted (carried_out s (end_of g actor
-        (actor_view state.old) e q (actor_view state.old).hand)).outcome ≡ true }
+    ensures acted { AcceptsFinish actor (finished_view finished.now)
+        (end_site memory.old attempts.old (actor_view state.old))
+        (end_site memory.new attempts.new (actor_view state.new)) result }
+    ensures declined { RefusesFinish actor
+        (end_site memory.old attempts.old (actor_view state.old))
+        (end_site memory.new attempts.new (actor_view state.new)) result }
+    ensures no_memory { LacksMemoryForFinish actor
+        (end_site memory.old attempts.old (actor_view state.old)) result }
     ensures step { IsActorStep memory.old memory.new (actor_view state.old) (actor_view state.new)
         result }
 {

@@ -71,19 +71,18 @@ impl Tenant {
         &mut self,
         refs: &mut RefTable<RingHistory>,
         actor: Actor,
-        question: &Ask,
+        asked: &Ask,
     ) -> Result<AskAnswer, Refusal>
         requires { counter_of refs.old < u128.MAX }
-        ensures done { DoesAsk actor question.now self.old self.new refs.old refs.new result
+        ensures done { DoesAsk actor asked.now self.old self.new refs.old refs.new result
             ask_answer_view }
-        ensures refused { DeclinesAsk actor question.now self.old self.new refs.old refs.new
-            result }
-        ensures no_memory { AskLacksMemory actor question.now self.old refs.old result }
+        ensures refused { DeclinesAsk actor asked.now self.old self.new refs.old refs.new result }
+        ensures no_memory { AskLacksMemory actor asked.now self.old refs.old result }
         ensures counted { CountsStep self.old self.new result }
         ensures commits { CountsOne refs.old refs.new result }
     {
         Ok(
-            self.answer_copied(refs, actor, question, &mut Aside::nothing())?
+            self.answer_copied(refs, actor, asked, &mut Aside::nothing())?
                 .given,
         )
     }
@@ -93,15 +92,14 @@ impl Tenant {
         &mut self,
         refs: &mut RefTable<RingHistory>,
         actor: Actor,
-        question: &Ask,
+        asked: &Ask,
         aside: &mut Aside,
     ) -> Result<AskAnswers, Refusal>
         requires { counter_of refs.old < u128.MAX }
-        ensures done { DoesAsk actor question.now self.old self.new refs.old refs.new result
+        ensures done { DoesAsk actor asked.now self.old self.new refs.old refs.new result
             (λ it. ask_answer_view it.given) }
-        ensures refused { DeclinesAsk actor question.now self.old self.new refs.old refs.new
-            result }
-        ensures no_memory { AskLacksMemory actor question.now self.old refs.old result }
+        ensures refused { DeclinesAsk actor asked.now self.old self.new refs.old refs.new result }
+        ensures no_memory { AskLacksMemory actor asked.now self.old refs.old result }
         ensures same { IfOk result AreSameAnswers }
         ensures counted { CountsStep self.old self.new result }
         ensures commits { CountsOne refs.old refs.new result }
@@ -114,7 +112,7 @@ impl Tenant {
             &mut self.attempts,
             actor,
             state,
-            question,
+            asked,
         )?;
         self.settle(actor, answered.given.is_interrupted(), aside);
         Ok(answered)

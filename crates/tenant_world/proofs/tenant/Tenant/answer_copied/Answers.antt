@@ -23,7 +23,7 @@ use Rattle.tenant_world.proofs.tenant.Tenant.answer_copied.Goals as goal
 pub returns-in_err-state-clause-refused : goal.returns-in_err-state-clause-refused
 returns-in_err-state-clause-refused c = λ g q s r right stands serves.
     let a = c.args.actor in
-    let ask = ask_view c.args.question.now in
+    let ask = ask_view c.args.asked.now in
     let p : ActorData → Plan = λ actor. asked_of g a actor ask q actor.hand in
     let deed = deed_result g s q (deeds.asks_for a ask) in
     let why = c.in_err-state.field-0.0 in
@@ -35,7 +35,7 @@ returns-in_err-state-clause-refused c = λ g q s r right stands serves.
 pub returns-clause-done : goal.returns-clause-done
 returns-clause-done c = λ g q s refs right stands serves.
     let a = c.args.actor in
-    let ask = ask_view c.args.question.now in
+    let ask = ask_view c.args.asked.now in
     let p : ActorData → Plan = λ actor. asked_of g a actor ask q actor.hand in
     let there = ap (part_under (seat_of a)) (sym stands.actors) ∙ c.in_ok-state.ensures.lent in
     let some = subst (λ n. 0 < n) stands.steps c.in_ok-state.ensures.some in
@@ -60,7 +60,7 @@ returns-clause-done c = λ g q s refs right stands serves.
 pub returns-in_err-answered-clause-refused : goal.returns-in_err-answered-clause-refused
 returns-in_err-answered-clause-refused c = λ g q s r right stands serves.
     let a = c.args.actor in
-    let ask = ask_view c.args.question.now in
+    let ask = ask_view c.args.asked.now in
     let p : ActorData → Plan = λ actor. asked_of g a actor ask q actor.hand in
     let there = ap (part_under (seat_of a)) (sym stands.actors) ∙ c.in_ok-state.ensures.lent in
     let some = subst (λ n. 0 < n) stands.steps c.in_ok-state.ensures.some in
@@ -80,7 +80,7 @@ returns-in_err-answered-clause-refused c = λ g q s r right stands serves.
 pub returns-in_err-answered-clause-no_memory : goal.returns-in_err-answered-clause-no_memory
 returns-in_err-answered-clause-no_memory c = λ g q s r stands serves none.
     let a = c.args.actor in
-    let ask = ask_view c.args.question.now in
+    let ask = ask_view c.args.asked.now in
     let p : ActorData → Plan = λ actor. asked_of g a actor ask q actor.hand in
     let there = ap (part_under (seat_of a)) (sym stands.actors) ∙ c.in_ok-state.ensures.lent in
     let some = subst (λ n. 0 < n) stands.steps c.in_ok-state.ensures.some in
