@@ -31,7 +31,7 @@ impl IdStream {
     ghost use Rattle.uuid.specs.Uuid.{version_num};
     ghost use Rattle.repl_sessions.specs.Ids.{session_id, id_text};
 
-    /// The ids under the server's seed, a secret, of the tenant of this number.
+    /// The ids of the tenant of this number, under the server's seed.
     pub fn new(seed: [u8; 32], tenant: u64) -> IdStream
         ensures { result ≡ record { seed = seed; tenant = tenant } }
     {
