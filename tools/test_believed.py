@@ -11,6 +11,7 @@ ROW = re.compile(r"^\| `(\w+)` \| ([\d,]+) \| ([\d,]+) \|", re.MULTILINE)
 # What of specs/ holds nothing to believe for `pipe`, and crates of which it needs some files alone.
 APART = {"Lib", "Inside", "Isolation", "Machine", "Examples"}
 PARTLY = {
+    "bencode_wire": {"Fault", "Spelling", "Stream", "Tree"},
     "ref_history": {"Versioned"},
     "ref_table": {"Calls", "Commit", "Numbered", "Performed", "Store"},
     "repl_core": {"Configured", "Grounds"},

@@ -59,6 +59,16 @@ mutual
       let r = frames_of_value k front a in
       record { frames = r.frames; takes = if_any r.frames r.takes; pairs = g; depth = ap suc r.depth; text = ap (λ x. x ++ (100 ∷ pairs_text qs)) r.text }
 
+-- frames in which a string may come
+pub record FramesBehind (m : List ℕ) : Type 0 where
+  pub frames : List OpenContainer
+  pub takes : TakesValue frames ⊎ TakesKey frames
+  pub text : frames_text frames ≡ m
+
+pub frames_behind : (m : List ℕ) → AwaitsString m → FramesBehind m
+frames_behind m (inl a) = let r = frames_of_value a.0 m a.1 in record { frames = r.frames; takes = inl r.takes; text = r.text }
+frames_behind m (inr a) = let r = frames_of_key a.0 a.1 m a.2 in record { frames = at_key a.1 ∷ r.frames; takes = inr (r.pairs, r.takes); text = r.text }
+
 -- A key that is repeated
 
 pub record RepeatsAt (m : List ℕ) : Type 0 where
@@ -117,7 +127,7 @@ string_at limit m front len (inr a) fits large e =
 pub large_at : (limit : ℕ) (m : List ℕ) → IsLarge limit m → LargeAt limit m
 large_at limit m h = string_at limit m h.0 h.1 h.2 h.3 h.4 h.5
 
-string_awaited : (fs : List OpenContainer) → TakesValue fs ⊎ TakesKey fs → AwaitsString (frames_text fs)
+pub string_awaited : (fs : List OpenContainer) → TakesValue fs ⊎ TakesKey fs → AwaitsString (frames_text fs)
 string_awaited fs (inl h) = inl (length fs, value_awaited fs h)
 string_awaited [] (inr h) = absurd h
 string_awaited (in_list ts ∷ fs) (inr h) = absurd h

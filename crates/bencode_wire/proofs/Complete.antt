@@ -328,7 +328,7 @@ run-frames (at_value ps key ∷ fs) (inl h) =
     ∙ run-string (at_key ps ∷ fs) key (inr (h.0, h.2)) h.1
 run-frames (at_value ps key ∷ fs) (inr h) = absurd h
 
-if_any : (fs : List OpenContainer) → Takes fs → IfAny fs (Takes fs)
+pub if_any : (fs : List OpenContainer) → Takes fs → IfAny fs (Takes fs)
 if_any [] h = tt
 if_any (f ∷ fs) h = h
 

@@ -50,7 +50,7 @@ split_more : (x : ℕ) (m : List ℕ) (f : ℕ) (front : List ℕ) (b : ℕ) →
 split_more x m f front b e (inl h) = inl (cc)
 split_more x m f front b e (inr h) = let left = h.1 in inr (h.0, cc)
 
-split_last : (m front more : List ℕ) (b : ℕ) → m ++ b ∷ [] ≡ front ++ more → (front ≡ m ++ b ∷ []) ⊎ ((left : List ℕ) × (m ≡ front ++ left))
+pub split_last : (m front more : List ℕ) (b : ℕ) → m ++ b ∷ [] ≡ front ++ more → (front ≡ m ++ b ∷ []) ⊎ ((left : List ℕ) × (m ≡ front ++ left))
 split_last [] [] more b e = inr ([], refl)
 split_last [] (f ∷ []) more b e = inl (cc)
 split_last [] (f ∷ g ∷ front) more b e = absurd (cc)

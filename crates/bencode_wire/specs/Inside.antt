@@ -13,7 +13,11 @@ pub mod Course
 pub mod Refusals
 pub mod Nesting
 pub mod State
-pub mod Held
+pub mod NewKeys
+pub mod Places
+pub mod Undoing
+pub mod GoingBack
 pub mod Return
+pub mod HasCome
 pub mod Decoding
 pub mod Gives

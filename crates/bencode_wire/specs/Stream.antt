@@ -6,7 +6,7 @@ use Rattle.bencode_wire.specs.Tree.{Tree, dictionary, Trees, TreePairs, HasKey}
 use Rattle.bencode_wire.specs.Spelling.{text, trees_text, pairs_text, string_text, IsLength}
 use Rattle.bencode_wire.specs.Spelling.{IsString, AreSpellable, ArePairs, sorted, Spells}
 use Rattle.bencode_wire.specs.Fault.{StreamRule, malformed, too_long, too_deep}
-use Rattle.bencode_wire.specs.declared.reader.TheConstants.{MAX_NESTING}
+use Rattle.bencode_wire.specs.declared.frames.TheConstants.{MAX_NESTING}
 
 -- the bytes begin a dictionary of the grammar, equal keys being let pass
 abbrev pub BeginsMessage : List ℕ → Type 0

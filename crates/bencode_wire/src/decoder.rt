@@ -5,10 +5,9 @@ ghost use Rattle.bencode_wire.specs.Tree.{Tree};
 
 use crate::ben::Ben;
 use crate::copy::copy_queue;
-use crate::course::{read_on, resume};
-use crate::cut::{Course, Reader};
+use crate::cut::{Reader, Unfinished};
 use crate::fault::WireFault;
-use crate::tail::Tail;
+use crate::piece::Piece;
 use bytes::Bytes;
 use std::alloc::{AllocError, Global};
 use std::collections::VecDeque;
@@ -16,34 +15,40 @@ use std::marker::Model;
 
 /// Reads a stream of messages.
 ///
-/// The bytes of the unfinished message are kept, beside the values that they were read as. A string
-/// becomes a value when all its bytes have come, so one that has come in part is kept once. A piece
-/// costs the reading of its own bytes, however the stream is cut; only after want of memory are the
-/// kept bytes read once more. Until the next piece those of the messages that became whole are kept
-/// too, so that the last piece can be taken back. Contracts see what it shows, a `DecoderState`, and
-/// not how it is kept.
+/// Of an unfinished message its lists, dictionaries and values are kept, and what has come of a
+/// string lies where its value will be: no byte of it is kept beside. A piece costs the reading of
+/// its own bytes, however the stream is cut. A message that came in several pieces is copied when
+/// it is whole, so that the last piece can be taken back. Contracts see what it shows, a
+/// `DecoderState`.
 #[derive(Drop)]
 pub struct Decoder {
     pub(crate) alloc: Global,
     limit: usize,
-    pub(crate) tail: Tail,
-    // What the unfinished message was read as; nothing after want of memory.
-    pub(crate) reader: Option<Reader>,
+    // How many bytes of the stream were read, up to the greatest number.
+    pub(crate) read: u64,
+    pub(crate) message: Unfinished,
     // The messages that are whole and were not handed out, oldest first.
     pub(crate) ready: VecDeque<Ben>,
     pub(crate) fault: Option<WireFault>,
-    // How many of the bytes had come before the last piece, where no message was ready then.
-    pub(crate) before: Option<usize>,
+    // How far it was before the last piece, where no message was ready then.
+    pub(crate) before: Option<Before>,
+}
+
+#[derive(Clone, Copy)]
+pub(crate) struct Before {
+    pub(crate) come: usize,
+    pub(crate) read: u64,
 }
 
 impl Model for Decoder {
     ghost use Rattle.bencode_wire.specs.Inside.State.{DecoderState};
     ghost use Rattle.bencode_wire.specs.contracts.ben.Ben as messages;
+    ghost use Rattle.bencode_wire.specs.contracts.cut.Reader as readers;
     ghost use Rattle.std.specs.Coded.{codes};
 
     ghost Value = { DecoderState };
 
-    ghost coded = { Prim.hlevel (codes, messages.the_row.coded) };
+    ghost coded = { Prim.hlevel (codes, messages.the_row.coded, readers.the_row.coded) };
 
     ghost use Rattle.bencode_wire.specs.Inside.Decoding.{shown_state, IsInStep};
 
@@ -54,12 +59,12 @@ impl Model for Decoder {
 
 impl Decoder {
     ghost use Rattle.bencode_wire.specs.Inside.View.{tree_view};
-    ghost use Rattle.bencode_wire.specs.Inside.Decoder.{ready_of, rest_of, fault_of, IsUnchanged};
+    ghost use Rattle.bencode_wire.specs.Inside.Decoder.{ready_of, rest_size, fault_of, IsUnchanged};
     ghost use Rattle.bencode_wire.specs.Inside.Decoder.{DecoderStands};
-    ghost use Rattle.bencode_wire.specs.Inside.Return.{CanReturn};
+    ghost use Rattle.bencode_wire.specs.Inside.Return.{earlier_of, CanReturn};
 
-    /// A decoder at the start of a stream. `limit` is the greatest length of a message, and of a
-    /// string in one.
+    /// A decoder at the start of a stream. `limit` is the greatest length in bytes of a message,
+    /// and of a string in one, whose room is made as soon as its length has come.
     pub fn new(alloc: Global, limit: usize) -> Decoder
         ensures stands { DecoderStands limit result [] [] }
         ensures ready { ready_of result ≡ [] }
@@ -68,15 +73,21 @@ impl Decoder {
         Decoder {
             alloc,
             limit,
-            tail: Tail::new(alloc),
-            reader: None,
+            read: 0,
+            message: Unfinished {
+                reader: Reader::new(alloc),
+                come: 0,
+            },
             ready: VecDeque::new(alloc),
             fault: None,
             before: None,
         }
     }
 
-    /// Takes the next piece of the stream, which may be empty. Messages before a fault are ready.
+    /// Takes the next piece of the stream, which may be empty. Messages before a fault are ready,
+    /// and the fault is answered to each later piece. After `NoMemory` nothing has changed, but the
+    /// decoder can go back no more. The last piece of a message that came in several costs a copy
+    /// of it.
     pub fn feed(&mut self, piece: &Bytes) -> Result<(), WireFault>
         // Whatever came before, in whatever pieces, the decoder then stands for all of it.
         ensures stands { (limit : ℕ) (all : List ℕ) (taken : List Tree)
@@ -91,6 +102,9 @@ impl Decoder {
         ensures keeps { (limit : ℕ) (all : List ℕ) (taken : List Tree)
             → DecoderStands limit self.old all taken
             → result ≡ Err WireFault.NoMemory → DecoderStands limit self.new all taken }
+        // Where a message was ready, it cannot go back.
+        ensures late { ready_of self.old ≢ [] → fault_of self.old ≡ None
+            → earlier_of self.new ≡ None }
         ensures ok { OnOk result (fault_of self.new ≡ None) }
         ensures fault { IfErr result (λ f. f ≢ WireFault.NoMemory → fault_of self.new ≡ Some f) }
         ensures memory { result ≡ Err WireFault.NoMemory → IsUnchanged self.old self.new }
@@ -113,7 +127,7 @@ impl Decoder {
             → DecoderStands limit self.old all taken
             → DecoderStands limit self.new all
             (taken ++ option_to_list (option_map tree_view result)) }
-        ensures rest { rest_of self.new ≡ rest_of self.old }
+        ensures rest { rest_size self.new ≡ rest_size self.old }
         ensures fault { fault_of self.new ≡ fault_of self.old }
         ensures returns { (limit : ℕ) (all : List ℕ) (taken : List Tree)
             → CanReturn limit self.old all taken
@@ -124,9 +138,9 @@ impl Decoder {
 
     /// Whether nothing of a next message has come, and there is no fault. It takes no memory.
     pub fn rest_is_empty(&self) -> bool
-        ensures { IsTrue result ↔ ((fault_of self.now ≡ None) × (rest_of self.now ≡ [])) }
+        ensures { IsTrue result ↔ ((fault_of self.now ≡ None) × (rest_size self.now ≡ 0)) }
     {
-        self.fault.is_none() && self.tail.is_empty()
+        self.fault.is_none() && self.message.come == 0
     }
 
     /// The fault of the stream, if it met one. It takes no memory.
@@ -136,10 +150,10 @@ impl Decoder {
         self.fault
     }
 
-    /// An equal decoder, which cannot go back. It reads the bytes of the unfinished message once
-    /// more at its next piece.
+    /// An equal decoder, which cannot go back. It fails only for want of memory.
     pub fn copy(&self) -> Result<Decoder, AllocError>
         ensures same { IfOk result (IsUnchanged self.now) }
+        ensures late { IfOk result (λ d. earlier_of d ≡ None) }
         ensures stands { (limit : ℕ) (all : List ℕ) (taken : List Tree)
             → DecoderStands limit self.now all taken
             → IfOk result (λ d. DecoderStands limit d all taken) }
@@ -147,15 +161,18 @@ impl Decoder {
         Ok(Decoder {
             alloc: self.alloc,
             limit: self.limit,
-            tail: self.tail.copy(self.alloc)?,
-            reader: None,
+            read: self.read,
+            message: Unfinished {
+                reader: self.message.reader.copy(self.alloc)?,
+                come: self.message.come,
+            },
             ready: copy_queue(self.alloc, &self.ready)?,
             fault: self.fault,
             before: None,
         })
     }
 
-    // Reads a piece behind the bytes that are kept.
+    // Reads a piece behind what has come.
     fn feed_bytes(&mut self, piece: &[u8]) -> Result<(), WireFault>
         requires { fault_of self.old ≡ None }
         ensures stands { (limit : ℕ) (all : List ℕ) (taken : List Tree)
@@ -172,47 +189,37 @@ impl Decoder {
         ensures ok { OnOk result (fault_of self.new ≡ None) }
         ensures fault { IfErr result (λ f. f ≢ WireFault.NoMemory → fault_of self.new ≡ Some f) }
         ensures memory { result ≡ Err WireFault.NoMemory → IsUnchanged self.old self.new }
+        ensures late { ready_of self.old ≢ [] → earlier_of self.new ≡ None }
     {
-        self.tail.settle();
         self.before = None;
-        let cached = self.reader.take();
-        let start = self.tail.start;
-        let Some(reader) = resume(self.alloc, self.limit, start, &self.tail.bytes, cached) else {
-            return Err(WireFault::NoMemory);
-        };
-        let kept = self.tail.bytes.len();
-        let ready = self.ready.len();
-        if self.tail.bytes.extend_from_slice(piece).is_err() {
+        if self.message.reader.begin_piece().is_err() {
             return Err(WireFault::NoMemory);
         }
-        let mut course = Course {
-            reader,
-            begin: 0,
-            at: kept,
+        let before = Before {
+            come: self.message.come,
+            read: self.read,
         };
-        let bytes = self.tail.bytes.as_slice();
-        match read_on(
-            self.alloc,
-            self.limit,
-            start,
-            bytes,
-            &mut course,
-            &mut self.ready,
-        ) {
+        let ready = self.ready.len();
+        let piece = Piece {
+            limit: self.limit,
+            start: self.read,
+            bytes: piece,
+        };
+        match piece.read(self.alloc, &mut self.message, &mut self.ready) {
             Ok(()) => {
-                self.tail.begin = course.begin;
-                self.reader = Some(course.reader);
-                self.before = (ready == 0).then_some(kept);
+                self.read = self.read.saturating_add(piece.bytes.len() as u64);
+                self.before = (ready == 0).then_some(before);
                 Ok(())
             }
             Err(WireFault::NoMemory) => {
-                self.tail.bytes.truncate(kept);
+                self.message.reader.take_back();
+                self.message.come = before.come;
                 self.ready.truncate(ready);
                 Err(WireFault::NoMemory)
             }
             Err(fault) => {
                 self.fault = Some(fault);
-                self.before = (ready == 0).then_some(kept);
+                self.before = (ready == 0).then_some(before);
                 Err(fault)
             }
         }

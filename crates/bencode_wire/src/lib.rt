@@ -11,18 +11,23 @@
 //! messages; `canonical_bytes` and `write_into` spell one value, `write_string` one byte string.
 #![tactic(auto)]
 
+mod begins;
 mod ben;
+mod containers;
 mod copy;
-mod course;
 mod cut;
 mod decoder;
+mod digits;
 mod fault;
 mod fields;
+mod frames;
+mod held;
 pub mod laws;
+mod piece;
 mod reader;
 mod returns;
 mod sign;
-mod tail;
+mod taking_back;
 mod write;
 
 pub use ben::{Ben, Dictionary};

@@ -3,10 +3,10 @@ ghost use Rattle.std.specs.Prelude.{◌≡◌, ℕ, List, [], ◌++◌, None};
 ghost use Rattle.bencode_wire.specs.Tree.{Tree};
 ghost use Rattle.bencode_wire.specs.Inside.Course.{ready_view};
 ghost use Rattle.bencode_wire.specs.Inside.Decoder.{ready_of, fault_of, IsUnchanged, DecoderStands};
-ghost use Rattle.bencode_wire.specs.Inside.Return.{earlier_of, before_last_piece, CanReturn};
+ghost use Rattle.bencode_wire.specs.Inside.Return.{earlier_of, CanReturn};
 
 use crate::ben::Ben;
-use crate::decoder::Decoder;
+use crate::decoder::{Before, Decoder};
 use std::collections::VecDeque;
 use std::mem;
 
@@ -29,7 +29,9 @@ impl Decoder {
     /// were handed out, and its fault. Where a message was ready before that piece, or it was taken
     /// back or settled, nothing changes. It takes no memory.
     pub fn take_back(&mut self)
-        ensures as_before { self.new ≡ before_last_piece self.old (earlier_of self.old) }
+        ensures none { earlier_of self.old ≡ None → self.new ≡ self.old }
+        ensures spent { earlier_of self.new ≡ None }
+        ensures nothing { ready_of self.old ≡ [] → ready_of self.new ≡ [] }
         ensures stands { (limit : ℕ) (all : List ℕ) (taken : List Tree)
             → CanReturn limit self.old all taken
             → DecoderStands limit self.new all taken }
@@ -40,12 +42,12 @@ impl Decoder {
             → CanReturn limit self.old all taken
             → fault_of self.new ≡ None }
     {
-        let Some(kept) = self.before.take() else {
+        let Some(Before { come, read }) = self.before.take() else {
             return;
         };
-        self.tail.bytes.truncate(kept);
-        self.tail.begin = 0;
-        self.reader = None;
+        self.message.reader.take_back();
+        self.message.come = come;
+        self.read = read;
         self.ready.clear();
         self.fault = None;
     }
@@ -59,7 +61,7 @@ impl Decoder {
             → DecoderStands limit self.old all taken
             → DecoderStands limit self.new all taken }
     {
-        self.tail.settle();
+        self.message.reader.forget();
         self.before = None;
     }
 }

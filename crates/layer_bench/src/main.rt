@@ -64,8 +64,9 @@ fn time_walker(rt: &HostRuntime, words: &mut SplitWhitespace<'_>) -> io::Result<
     println!(rt; "{asked} asked, {conflicts} conflicts, {values} values")
 }
 
-fn time_wire(rt: &HostRuntime) -> io::Result<()> {
-    let messages = wire::count_messages(rt.alloc(), &mut rt.reader())?;
+fn time_wire(rt: &HostRuntime, words: &mut SplitWhitespace<'_>) -> io::Result<()> {
+    let piece = wire::piece_of(number_of(words.next()));
+    let messages = wire::count_messages(rt.alloc(), &mut rt.reader(), piece)?;
     println!(rt; "{messages} messages")
 }
 
@@ -111,7 +112,7 @@ fn time_layer(rt: &HostRuntime, line: &str) -> io::Result<bool> {
         Some("cells") => time_cells(rt, &mut words)?,
         Some("walker") => time_walker(rt, &mut words)?,
         Some("wire") => {
-            time_wire(rt)?;
+            time_wire(rt, &mut words)?;
             return Ok(false);
         }
         Some("acts") => {

@@ -6,8 +6,7 @@ use Rattle.bencode_wire.specs.Tree.{Tree, integer, string, list, dictionary}
 use Rattle.bencode_wire.specs.Stream.{StreamEnding, rest, fault, Streams}
 use Rattle.bencode_wire.specs.Fault.{counted_place}
 use Rattle.bencode_wire.specs.Inside.Decoder.{ready_of, fault_of, Shows, DecoderStands}
-use Rattle.bencode_wire.specs.Inside.Return.{before_last_piece}
-use Rattle.bencode_wire.specs.Inside.State.{Earlier}
+use Rattle.bencode_wire.specs.Inside.Cut.{Cut}
 use Rattle.bencode_wire.specs.declared.decoder.Decoder.{Decoder}
 use Rattle.bencode_wire.specs.declared.fault.WireFault.{WireFault}
 use Rattle.bencode_wire.proofs.Unique.{streams_same}
@@ -69,9 +68,9 @@ taken-heard g t piece q =
     messages-heard g t (new_messages g.readings q.heard piece) (record q { heard = q.heard ++ piece })
 
 -- what a decoder shows of a stream's end
-shown-fault : (d : Decoder) (all : List ℕ) (end : StreamEnding) → Shows d all end → fault_of d ≡ fault_in end
-shown-fault d all (rest m) shows = shows.0
-shown-fault d all (fault rule at) shows = shows
+shown-fault : (held : Cut) (come read : ℕ) (found : Option WireFault) (all : List ℕ) (end : StreamEnding) → Shows held come read found all end → found ≡ fault_in end
+shown-fault held come read found all (rest m) shows = shows.0
+shown-fault held come read found all (fault rule at) shows = shows
 
 -- the decoder has read all bytes, whose messages are those that were taken
 pub record IsRead (g : Ground) (all : List ℕ) (taken : List Tree) (d : Decoder) : Type 0 where
@@ -89,7 +88,7 @@ is-read g all taken d right s ready =
       reads = record {
         stands = subst (λ ms. DecoderStands message_limit d all ms) same.0 s;
         ready = ready;
-        fault = shown-fault d all s.end s.shows ∙ ap fault_in same.1;
+        fault = shown-fault _ _ _ (fault_of d) all s.end s.shows ∙ ap fault_in same.1;
       };
     }
 
@@ -121,11 +120,6 @@ heard-all g t q piece messages broken count d s es waiting right stands ready is
       reads = subst (λ bytes. HasReadAll g bytes d) (sym (taken-heard g t piece q)) r.reads;
       holds = subst (λ (it : TenantState). PartsStandFor g t it s es waiting) after held;
     }
-
--- no message is ready once the piece is taken back
-pub none-ready-back : (d : Decoder) (o : Option Earlier) → ready_of d ≡ [] → ready_of (before_last_piece d o) ≡ []
-none-ready-back d None none = none
-none-ready-back d (Some e) none = refl
 
 pub parts-same : {s u : NamedSessions} {es fs : List (Entry ActorData)} {vs ws : List (List ℕ)}
     → s ≡ u → es ≡ fs → vs ≡ ws

@@ -232,6 +232,34 @@ fn a_settled_piece_stays(rt: HostRuntime) -> Result<(), AllocError> {
     Ok(())
 }
 
+// How many bytes of a token have come behind each of these.
+const HELD: &[(&[u8], usize)] = &[
+    (b"", 0),
+    (b"d", 0),
+    (b"d2", 1),
+    (b"d2:", 2),
+    (b"d2:i", 3),
+    (b"d2:id", 0),
+    (b"d2:id1", 1),
+    (b"d2:idi-", 2),
+    (b"d2:idi-12", 4),
+    (b"d2:idi-12e", 0),
+    (b"d2:idl12:hello", 8),
+    (b"d4:code7:(+ 1 2)2:id", 0),
+    (b"d4:code7:(+ 1 2)2:id1", 1),
+    (b"d4:code7:(+ 1 2)2:id1:7e", 0),
+];
+
+#[test]
+fn holds_what_has_come_of_a_token(rt: HostRuntime) -> Result<(), AllocError> {
+    for (bytes, held) in HELD {
+        let mut decoder = Decoder::new(rt.alloc(), LIMIT);
+        feed(rt.alloc(), &mut decoder, *bytes)?;
+        assert!(rt; decoder.held() == *held);
+    }
+    Ok(())
+}
+
 // Feeds the bytes one by one, to a copy of the decoder each, and notes the last fault.
 fn feed_bytes(
     alloc: Global,

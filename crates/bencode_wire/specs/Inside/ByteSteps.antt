@@ -13,7 +13,7 @@ use Rattle.bencode_wire.specs.Inside.Beginnings.{ByteEffect, Adding, begin, goes
 use Rattle.bencode_wire.specs.Inside.Beginnings.{ends}
 use Rattle.bencode_wire.specs.Inside.Beginnings.{stuck}
 use Rattle.bencode_wire.specs.Inside.ByteEffects.{integer_digits, length_digits, text_bytes}
-use Rattle.bencode_wire.specs.declared.reader.TheConstants.{MAX_NESTING}
+use Rattle.bencode_wire.specs.declared.frames.TheConstants.{MAX_NESTING}
 
 -- what a byte comes to by the rules
 pub data Judged : Type 0 where

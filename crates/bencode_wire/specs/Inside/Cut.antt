@@ -1,5 +1,5 @@
 -- What the reader holds, a text that breaks off at some byte: the lists and dictionaries that are
--- open, the innermost first, and the part of a token that has come. No public clause speaks of it.
+-- open, the innermost first, and the part of a token that has come.
 use Rattle.std.specs.Prelude.{ℕ, ◌+◌, ◌<◌, ◌≤◌, ◌⊎◌, Bool, true, false, List, [], ◌∷◌, ◌++◌, length}
 use Rattle.std.specs.Prelude.{codes, decimal}
 use Rattle.bencode_wire.specs.Tree.{Trees, TreePairs, no_pairs}
@@ -13,6 +13,16 @@ pub data OpenContainer : Type 0 where
   at_key : TreePairs → OpenContainer
   -- a dictionary in which the value of a key has to come
   at_value : TreePairs → List ℕ → OpenContainer
+
+-- one that its end may follow
+abbrev pub CanEnd : OpenContainer → Type 0
+CanEnd (in_list ts) = Unit {0}
+CanEnd (at_key ps) = Unit {0}
+CanEnd (at_value ps key) = ⊥
+
+abbrev pub InnermostCanEnd : List OpenContainer → Type 0
+InnermostCanEnd [] = ⊥
+InnermostCanEnd (f ∷ fs) = CanEnd f
 
 pub data Token : Type 0 where
   between : Token

@@ -1,35 +1,34 @@
 -- How a decoder is kept. No public clause speaks of it.
-use Rattle.std.specs.Prelude.{◌≡◌, ◌≤◌, ◌+◌, ℕ, List, length, take, drop, None, option_map}
-use Rattle.std.specs.Prelude.{MatchOption, IfSome}
+use Rattle.std.specs.Prelude.{◌≡◌, ℕ, List, None, option_map, IfSome}
 use Rattle.bencode_wire.specs.Inside.State.{DecoderState, Earlier}
-use Rattle.bencode_wire.specs.Fault.{counted_place}
-use Rattle.bencode_wire.specs.Inside.Held.{Holds}
+use Rattle.bencode_wire.specs.Inside.Cut as cuts
+use Rattle.bencode_wire.specs.Inside.Reader.{cut_view}
+use Rattle.bencode_wire.specs.Inside.HasCome.{HasCome}
+use Rattle.bencode_wire.specs.Inside.GoingBack.{WasBefore}
 use Rattle.bencode_wire.specs.Stream.{IsRest}
-use Rattle.bencode_wire.specs.declared.tail.Tail.{Tail}
+use Rattle.bencode_wire.specs.declared.decoder.Before.{Before}
 use Rattle.bencode_wire.specs.declared.decoder.Decoder.TheInside.{Inside}
 
--- what has come of the unfinished message
-abbrev pub rest_in : Tail → List ℕ
-rest_in t = drop t.begin t.bytes.items
-
--- so many of the bytes had come before the last piece
-abbrev pub earlier_in : Tail → ℕ → Earlier
-earlier_in t kept = record { rest = take kept t.bytes.items; place = counted_place t.start }
+abbrev pub earlier_in : Before → Earlier
+earlier_in b = record { come = b.come; read = b.read }
 
 abbrev pub shown_state : Inside → DecoderState
 shown_state a = record {
   limit = a.limit;
   ready = a.ready.items;
-  rest = rest_in a.tail;
-  place = counted_place (a.tail.start + a.tail.begin);
+  reader = a.message.reader;
+  come = a.message.come;
+  read = a.read;
   fault = a.fault;
-  earlier = option_map (earlier_in a.tail) a.before;
+  earlier = option_map earlier_in a.before;
 }
 
--- what is kept is part of a message, and beside it, where it is there, what it was read as
+-- so many bytes, part of a message, are held as this cut
+abbrev pub HoldsRest : ℕ → cuts.Cut → ℕ → Type 0
+HoldsRest limit held come = (m : List ℕ) × IsRest limit m × HasCome held come m
+
+-- what is held is part of a message, and so is what was held before the last piece
 pub record IsInStep (a : Inside) : Type 0 where
-  pub begun : a.tail.begin ≤ length a.tail.bytes.items
-  pub rests : a.fault ≡ None → IsRest a.limit (rest_in a.tail)
-  pub held : MatchOption a.reader (Unit {0}) (Holds (rest_in a.tail))
-  pub before : IfSome a.before (λ kept.
-      (kept ≤ length a.tail.bytes.items) × IsRest a.limit (take kept a.tail.bytes.items))
+  pub rests : a.fault ≡ None → HoldsRest a.limit (cut_view a.message.reader) a.message.come
+  pub before : IfSome a.before (λ b. (frames : List cuts.OpenContainer) × (token : cuts.Token)
+      × WasBefore a.message.reader frames token × HoldsRest a.limit (cuts.cut frames token) b.come)

@@ -1,15 +1,15 @@
 -- What the private functions that read give: what is judged.
-use Rattle.std.specs.Prelude.{◌≡◌, ℕ, ◌<◌, ◌≤◌, ◌^◌, List, [], length, Option, Some, None}
-use Rattle.std.specs.Prelude.{Result, Ok, Err}
+use Rattle.std.specs.Prelude.{◌≡◌, ℕ, ◌<◌, ◌^◌, List, [], Option, Some, None, Result, Ok, Err}
 use Rattle.bencode_wire.specs.Fault.{malformed, too_long, too_deep}
-use Rattle.bencode_wire.specs.Inside.Cut.{OpenContainer, between, cut}
+use Rattle.bencode_wire.specs.Inside.Cut.{OpenContainer, between, part, cut}
 use Rattle.bencode_wire.specs.Inside.ByteSteps.{Judged, reads, whole, refuses, within_limit, start}
-use Rattle.bencode_wire.specs.Inside.Reader.{begun_view, come_of, cut_view}
+use Rattle.bencode_wire.specs.Inside.Reader.{token_view, cut_view}
 use Rattle.bencode_wire.specs.Inside.View.{tree_view}
 use Rattle.bencode_wire.specs.declared.ben.Ben.{Ben}
 use Rattle.bencode_wire.specs.declared.fault.WireFaultKind.{WireFaultKind}
 use Rattle.bencode_wire.specs.declared.cut.TokenProgress.{TokenProgress}
 use Rattle.bencode_wire.specs.declared.cut.Reader.{Reader}
+use Rattle.bencode_wire.specs.declared.cut.Refused.{Refused}
 
 -- a refusal is what is judged, unless it is of memory
 abbrev pub Refuses : Judged → WireFaultKind → Type 0
@@ -21,21 +21,27 @@ Refuses j WireFaultKind.TooLong = (limit : ℕ) → limit < 2 ^ 64
 Refuses j WireFaultKind.TooDeep = j ≡ refuses too_deep
 
 -- a value was put into the innermost frame, and the frames are what is judged
-abbrev pub Puts : Judged → List OpenContainer → Result (Unit {0}) WireFaultKind → Type 0
+abbrev pub Puts : Judged → List OpenContainer → Result (Unit {0}) Refused → Type 0
 Puts j fs (Ok done) = j ≡ reads (cut fs between)
-Puts j fs (Err e) = Refuses j e
+Puts j fs (Err e) = Refuses j e.kind
 
--- the frames and the result are what is judged
+-- the frames and what a byte comes to are what is judged
+abbrev pub Comes : Judged → List OpenContainer → TokenProgress → Type 0
+Comes j fs (TokenProgress.Partial token) =
+    (string : List ℕ) → j ≡ reads (cut fs (token_view string token))
+Comes j fs (TokenProgress.OpenString bytes p) = j ≡ reads (cut fs (part bytes.items p.left))
+Comes j fs (TokenProgress.Whole v) = (j ≡ whole (tree_view v)) × (fs ≡ [])
+
 abbrev pub Yields : Judged → List OpenContainer → Result TokenProgress WireFaultKind → Type 0
-Yields j fs (Ok (TokenProgress.Partial token)) =
-    (j ≡ reads (cut fs (begun_view token))) × (come_of token ≡ 0)
-Yields j fs (Ok (TokenProgress.Whole v)) = (j ≡ whole (tree_view v)) × (fs ≡ [])
+Yields j fs (Ok progress) = Comes j fs progress
 Yields j fs (Err e) = Refuses j e
 
--- the reader, behind the bytes of a message that were read, and the message that is whole are what
--- is judged
-abbrev pub Steps : Judged → List ℕ → Reader → Result (Option Ben) WireFaultKind → Type 0
-Steps j read r (Ok None) = (j ≡ reads (cut_view read r)) × (come_of r.token ≤ length read)
-Steps j read r (Ok (Some v)) =
-    (j ≡ whole (tree_view v)) × ((next : List ℕ) → cut_view next r ≡ start) × (come_of r.token ≡ 0)
-Steps j read r (Err e) = Refuses j e
+abbrev pub YieldsPut : Judged → List OpenContainer → Result TokenProgress Refused → Type 0
+YieldsPut j fs (Ok progress) = Comes j fs progress
+YieldsPut j fs (Err e) = Refuses j e.kind
+
+-- the reader and the message that is whole are what is judged
+abbrev pub Steps : Judged → Reader → Result (Option Ben) WireFaultKind → Type 0
+Steps j r (Ok None) = j ≡ reads (cut_view r)
+Steps j r (Ok (Some v)) = (j ≡ whole (tree_view v)) × (cut_view r ≡ start)
+Steps j r (Err e) = Refuses j e

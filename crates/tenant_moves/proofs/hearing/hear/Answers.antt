@@ -8,7 +8,7 @@ use Rattle.bencode_wire.specs.declared.fault.WireFault.{WireFault}
 use Rattle.server_rules.specs.Readings.{message_limit}
 use Rattle.server_rules.specs.Tenant.{TenantState}
 use Rattle.tenant_moves.specs.Holds.{PartsStandFor}
-use Rattle.tenant_moves.proofs.Hearings.{heard-all, none-ready-back, parts-same, on-err}
+use Rattle.tenant_moves.proofs.Hearings.{heard-all, parts-same, on-err}
 use Rattle.tenant_moves.proofs.hearing.hear.Goals as goal
 
 pub returns-in-Ok-clause-heard : goal.returns-in-Ok-clause-heard
@@ -56,6 +56,4 @@ returns-in_err-is_broken-clause-stays c =
     )
 
 pub returns-in-Err-clause-ready : goal.returns-in-Err-clause-ready
-returns-in-Err-clause-ready c =
-    ap ready_of c.take_back.ensures.as_before
-    ∙ none-ready-back c.take_ready-messages.new.self _ (ap ready_of c.take_ready-messages.ensures.taken)
+returns-in-Err-clause-ready c = c.take_back.ensures.nothing (ap ready_of c.take_ready-messages.ensures.taken)
