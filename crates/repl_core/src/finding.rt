@@ -29,8 +29,10 @@ impl Walks {
         if self.get(actor).is_some() {
             return Ok(());
         }
-        let found = evaluation_of(self.alloc, run)?;
-        self.put(actor, found)
+        match evaluation_of(self.alloc, run) {
+            Ok(found) => self.put(actor, found),
+            Err(error) => Err(error),
+        }
     }
 }
 
@@ -39,6 +41,9 @@ impl Walks {
 fn evaluation_of(alloc: Global, run: &Run) -> Result<Progress, AllocError>
     ensures { IfOk result (IsWalkOf (run_view run.now)) }
 {
+    if run.trace.is_empty() {
+        return start(alloc, &run.job);
+    }
     let mut progress = start(alloc, &run.job)?;
     for exchange in &run.trace {
         progress = answered(alloc, progress, exchange)?;

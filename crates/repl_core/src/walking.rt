@@ -185,7 +185,9 @@ impl Walks {
         let Some(Progress::Asks(walk)) = self.take(actor) else {
             unreachable!();
         };
-        let later = walk.resume(self.alloc, answer)?;
-        self.put(actor, later)
+        match walk.resume(self.alloc, answer) {
+            Ok(later) => self.put(actor, later),
+            Err(error) => Err(error),
+        }
     }
 }

@@ -15,7 +15,8 @@ use std::collections::BTreeMap;
 pub struct Walks {
     pub(crate) alloc: Global,
     // An actor keeps its place while its evaluation is taken out, so that a step takes no memory.
-    pub(crate) live: BTreeMap<Actor, Option<Progress>>,
+    // The place stands in a box: an evaluation is large, and a node of the map has many places.
+    pub(crate) live: BTreeMap<Actor, Box<Option<Progress>>>,
 }
 
 impl Drop for Walks {
@@ -42,7 +43,7 @@ impl Walks {
     pub(crate) fn get(&self, actor: Actor) -> Option<&Progress>
         ensures { option_map (λ p. p.now) result ≡ walk_at self.now actor }
     {
-        self.live.get(&actor)?.as_ref()
+        (**self.live.get(&actor)?).as_ref()
     }
 
     /// Takes an evaluation out. The place of its actor stays.
@@ -52,7 +53,7 @@ impl Walks {
         ensures others { (b : Actor) → seat_of b ≢ seat_of actor
             → walk_at self.new b ≡ walk_at self.old b }
     {
-        self.live.get_mut(&actor)?.take()
+        (**self.live.get_mut(&actor)?).take()
     }
 
     /// The evaluation of this actor and its place are gone.
@@ -73,10 +74,21 @@ impl Walks {
         ensures stays { OnErr result ((b : Actor) → walk_at self.new b ≡ walk_at self.old b) }
     {
         if let Some(place) = self.live.get_mut(&actor) {
-            drop(place.replace(progress));
+            **place = Some(progress);
             return Ok(());
         }
-        drop(self.live.insert(actor, Some(progress))?);
+        self.add(actor, progress)
+    }
+
+    // The same, with a new place.
+    fn add(&mut self, actor: Actor, progress: Progress) -> Result<(), AllocError>
+        ensures put { OnOk result (walk_at self.new actor ≡ Some progress) }
+        ensures others { OnOk result ((b : Actor) → seat_of b ≢ seat_of actor
+            → walk_at self.new b ≡ walk_at self.old b) }
+        ensures stays { OnErr result ((b : Actor) → walk_at self.new b ≡ walk_at self.old b) }
+    {
+        let place = Box::new(self.alloc, Some(progress))?;
+        drop(self.live.insert(actor, place)?);
         Ok(())
     }
 }

@@ -105,13 +105,13 @@ abbrev pub RefusesIdle : Actor → (ActorData → Plan) → Type 0
 RefusesIdle a p = (actor : ActorData) → IsIdle a actor → p actor ≡ quietly (refuses Refusal.Idle)
 
 none-waiting : (g : Ground) (a : Actor) (actor : ActorData) (q : TenantState) (ws : List Waiting)
-    → ((agents : AgentsData) → action_for a agents ≡ None) → has_waiting ws ≡ false
+    → action_for a q.cells.agents ≡ None → has_waiting ws ≡ false
     → start_waiting g a actor q ws ≡ refuses Refusal.Idle
-none-waiting g a actor q [] none idle = ap (start_action g a actor q) (none q.cells.agents)
+none-waiting g a actor q [] none idle = ap (start_action g a actor q) none
 none-waiting g a actor q (w ∷ ws) none idle = absurd (true≢false idle)
 
 none-begins : (g : Ground) (a : Actor) (actor : ActorData) (q : TenantState) (h : Option WorkInHand)
-    → ((agents : AgentsData) → action_for a agents ≡ None)
+    → action_for a q.cells.agents ≡ None
     → (is_some h || has_waiting actor.waiting) ≡ false
     → start_of g a actor q h ≡ refuses Refusal.Idle
 none-begins g a actor q None none idle = none-waiting g a actor q actor.waiting none idle
@@ -119,7 +119,22 @@ none-begins g a actor q (Some h) none idle = absurd (true≢false idle)
 
 pub starts-idle : (g : Ground) (a : Actor) (q : TenantState)
     → RefusesIdle a (λ actor. quietly (start_of g a actor q actor.hand))
-starts-idle g a q actor i = ap quietly (none-begins g a actor q actor.hand i.none i.idle)
+starts-idle g a q actor i =
+    ap quietly (none-begins g a actor q actor.hand (i.none q.cells.agents) i.idle)
+
+pub some-left : (n : ℕ) → (n ≡ 0 → ⊥) → 0 < n
+some-left zero none = absurd (none refl)
+some-left (suc n) none = omega arith
+
+-- an actor that is there with nothing to do, and to which no action comes now, begins nothing
+pub begins-nothing : (g : Ground) (q : TenantState) (s : Store) (a : Actor) (actor : ActorData)
+    → 0 < q.steps → part_under (seat_of a) q.actors ≡ Some actor → is_busy actor ≡ false
+    → action_for a q.cells.agents ≡ None
+    → (deed_result g s q (deeds.starts a)).outcome ≡ refuses Refusal.Idle
+begins-nothing g q s a actor some there idle none =
+    ap (λ d. d.outcome) (starts-by g q s a
+    ∙ done-by q s a (λ it. quietly (start_of g a it q it.hand)) actor some there
+    ∙ ap (λ o. carried_out s (quietly o)) (none-begins g a actor q actor.hand none idle))
 
 none-asks : (g : Ground) (a : Actor) (actor : ActorData) (ask : AskData) (q : TenantState)
     (h : Option WorkInHand) → (is_some h || has_waiting actor.waiting) ≡ false

@@ -86,7 +86,8 @@ pub(crate) fn start_action(
     Ok(answers)
 }
 
-fn next_for<'a>(actor: Actor, agents: &'a Agents) -> Option<NextAction<'a>>
+// The action that this actor begins next, if it is that of agents and one waits.
+pub(crate) fn next_for<'a>(actor: Actor, agents: &'a Agents) -> Option<NextAction<'a>>
     ensures { option_map next_action_view result ≡ action_for actor (agents_view agents.now) }
 {
     match actor {

@@ -131,12 +131,12 @@ impl Tenant {
             → IfOk result (λ actors. IsEnough l actors.items) }
     {
         let found = self.actors.busy(alloc)?;
-        let busy = agents_last(alloc, found.as_slice())?;
+        let busy = agents_last(found)?;
         if busy.len() < self.steps as usize {
             return Ok(busy);
         }
         let all = self.actors.names(alloc)?;
-        agents_last(alloc, all.as_slice())
+        agents_last(all)
     }
 
     /// The form of an actor that runs, if one does: its job, and what it asked and was answered.
@@ -224,15 +224,10 @@ impl Tenant {
 }
 
 // The actor of agents behind the others. It fails only for want of memory.
-fn agents_last(alloc: Global, actors: &[Actor]) -> Result<Vec<Actor>, AllocError>
-    ensures { IfOk result (λ all. all.items ≡ agents_last actors.now) }
+fn agents_last(mut actors: Vec<Actor>) -> Result<Vec<Actor>, AllocError>
+    ensures { IfOk result (λ all. all.items ≡ agents_last actors.items) }
 {
-    let mut all = Vec::with_capacity(alloc, actors.len() + 1)?;
-    for actor in actors {
-        if *actor != Actor::Agents {
-            all.push(*actor)?;
-        }
-    }
-    all.push(Actor::Agents)?;
-    Ok(all)
+    actors.retain(|actor| *actor != Actor::Agents);
+    actors.push(Actor::Agents)?;
+    Ok(actors)
 }

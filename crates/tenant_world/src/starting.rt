@@ -216,15 +216,21 @@ fn start_request(
         return Err(Refusal::Held);
     }
     let session = memory.first_state(alloc, actor)?;
-    let BegunRequest {
-        effects,
-        hand,
-        given,
-    } = begin_request(alloc, retries, &memory.spaces, waiting, session, aside)?;
-    let answers = StartAnswers::of(answer_of(given))?;
-    post_effects(memory, actor, effects)?;
-    leave_request(aside, put_next_in_hand(state, hand));
-    Ok(answers)
+    match begin_request(alloc, retries, &memory.spaces, waiting, session, aside) {
+        Ok(
+            BegunRequest {
+                effects,
+                hand,
+                given,
+            },
+        ) => {
+            let answers = StartAnswers::of(answer_of(given))?;
+            post_effects(memory, actor, effects)?;
+            leave_request(aside, put_next_in_hand(state, hand));
+            Ok(answers)
+        }
+        Err(_) => Err(Refusal::NoMemory),
+    }
 }
 
 fn oldest(state: &ActorState) -> Option<&Waiting>

@@ -1,10 +1,11 @@
 // The steps of a tenant's actors.
-ghost use Rattle.std.specs.Prelude.{◌≡◌, ◌+◌, ◌<◌, IfOk};
+ghost use Rattle.std.specs.Prelude.{◌≡◌, ◌+◌, ◌<◌, true, IfOk};
 ghost use Rattle.repl_asks.specs.Inside.Jobs.{finished_view};
 ghost use Rattle.server_rules.specs.Ground.{Ground};
 ghost use Rattle.ref_table.specs.Store.{Store};
 ghost use Rattle.server_rules.specs.Tenant.{ActorData, TenantState};
-ghost use Rattle.server_rules.specs.Plan.{starts, ends, with_step_spent};
+ghost use Rattle.server_rules.specs.DeedResult.{deed_result};
+ghost use Rattle.server_rules.specs.Plan.{starts, ends, refuses, with_step_spent};
 ghost use Rattle.ref_table.specs.Standing.{counter_of};
 ghost use Rattle.tenant_world.specs.Answers.{start_answer_view, end_answer_view};
 ghost use Rattle.tenant_asks.specs.Answers.{ask_answer_view, AreSameAnswers};
@@ -15,6 +16,7 @@ ghost use Rattle.tenant_parts.specs.Attempts.{Reaches};
 ghost use Rattle.tenant_parts.specs.Promises.{CountsOne};
 ghost use Rattle.tenant_asks.specs.Memories.{Remembers};
 
+use crate::actions::next_for;
 use crate::answers::{EndAnswer, EndedEvaluation, StartAnswer, StartAnswers};
 use crate::ending::{end, finish};
 use crate::lending::{leave, lend};
@@ -40,7 +42,28 @@ impl Tenant {
         ensures no_memory { LacksMemory (starts actor) self.old result }
         ensures counted { CountsStep self.old self.new result }
     {
+        if self.lacks_actions(actor) {
+            return Err(Refusal::Idle);
+        }
         Ok(self.start_copied(actor, &mut Aside::nothing())?.given)
+    }
+
+    // Whether this is the actor of agents, and has nothing to begin. It has a turn in each round,
+    // so this is found out before anything is made for its step.
+    fn lacks_actions(&self, actor: Actor) -> bool
+        ensures { (g : Ground) (q : TenantState) (s : Store) → StandsForState g self.now q s
+            → result ≡ true → (deed_result g s q (starts actor)).outcome ≡ refuses Refusal.Idle }
+    {
+        if actor != Actor::Agents || self.steps == 0 {
+            return false;
+        }
+        let Some(state) = self.actors.get(actor) else {
+            return false;
+        };
+        if state.is_busy() {
+            return false;
+        }
+        next_for(actor, &self.memory.cells.agents).is_none()
     }
 
     /// The same, with its answer twice. A text that was read before is not read again.
@@ -61,7 +84,7 @@ impl Tenant {
             state,
             aside,
         )?;
-        self.settle(actor, started.given.is_interrupted(), aside);
+        self.settle(actor, started.given.is_interrupted(), &mut aside.left);
         Ok(started)
     }
 
@@ -81,10 +104,11 @@ impl Tenant {
         ensures counted { CountsStep self.old self.new result }
         ensures commits { CountsOne refs.old refs.new result }
     {
-        Ok(
-            self.answer_copied(refs, actor, asked, &mut Aside::nothing())?
-                .given,
-        )
+        let mut left = Left::Nothing;
+        match self.answer_leaving(refs, actor, asked, &mut left) {
+            Ok(answers) => Ok(answers.given),
+            Err(why) => Err(why),
+        }
     }
 
     /// The same, with its answer twice.
@@ -94,6 +118,26 @@ impl Tenant {
         actor: Actor,
         asked: &Ask,
         aside: &mut Aside,
+    ) -> Result<AskAnswers, Refusal>
+        requires { counter_of refs.old < u128.MAX }
+        ensures done { DoesAsk actor asked.now self.old self.new refs.old refs.new result
+            (λ it. ask_answer_view it.given) }
+        ensures refused { DeclinesAsk actor asked.now self.old self.new refs.old refs.new result }
+        ensures no_memory { AskLacksMemory actor asked.now self.old refs.old result }
+        ensures same { IfOk result AreSameAnswers }
+        ensures counted { CountsStep self.old self.new result }
+        ensures commits { CountsOne refs.old refs.new result }
+    {
+        self.answer_leaving(refs, actor, asked, &mut aside.left)
+    }
+
+    // The same. Of what goes beside a step it needs only the place for what is left to nobody.
+    fn answer_leaving(
+        &mut self,
+        refs: &mut RefTable<RingHistory>,
+        actor: Actor,
+        asked: &Ask,
+        left: &mut Left,
     ) -> Result<AskAnswers, Refusal>
         requires { counter_of refs.old < u128.MAX }
         ensures done { DoesAsk actor asked.now self.old self.new refs.old refs.new result
@@ -114,7 +158,7 @@ impl Tenant {
             state,
             asked,
         )?;
-        self.settle(actor, answered.given.is_interrupted(), aside);
+        self.settle(actor, answered.given.is_interrupted(), left);
         Ok(answered)
     }
 
@@ -142,7 +186,7 @@ impl Tenant {
             ending,
             aside,
         )?;
-        self.settle(actor, ended.is_interrupted(), aside);
+        self.settle(actor, ended.is_interrupted(), &mut aside.left);
         Ok(ended)
     }
 
@@ -171,12 +215,12 @@ impl Tenant {
             finished,
             aside,
         )?;
-        self.settle(actor, ended.is_interrupted(), aside);
+        self.settle(actor, ended.is_interrupted(), &mut aside.left);
         Ok(ended)
     }
 
     // The step is accepted: its actor rests, or is gone where its request was interrupted.
-    fn settle(&mut self, actor: Actor, is_interrupted: bool, aside: &mut Aside)
+    fn settle(&mut self, actor: Actor, is_interrupted: bool, left: &mut Left)
         requires { 0 < self.old.steps }
         ensures steps { self.old.steps ≡ self.new.steps + 1 }
         ensures stands { (g : Ground) (q after : TenantState) (s : Store) (state : ActorData)
@@ -186,13 +230,13 @@ impl Tenant {
             → after.steps ≡ q.steps → after.heard ≡ q.heard
             → StandsForState g self.new (with_step_spent after) s }
     {
-        leave_actor(aside, leave(&mut self.actors, actor, is_interrupted));
+        leave_actor(left, leave(&mut self.actors, actor, is_interrupted));
         self.steps -= 1;
     }
 }
 
-fn leave_actor(aside: &mut Aside, state: Option<ActorState>) {
+fn leave_actor(left: &mut Left, state: Option<ActorState>) {
     if let Some(state) = state {
-        aside.left = Left::Actor(state);
+        *left = Left::Actor(state);
     }
 }

@@ -8,7 +8,7 @@ use Rattle.repl_core.specs.declared.walks.Walks.{Walks}
 
 -- that of the form of this actor, if there is one
 abbrev pub walk_at : Walks → Actor → Option Progress
-walk_at walks a = option_and_then (λ place. place) (get (order.ghosts).cmp walks.live a)
+walk_at walks a = option_and_then (λ place. place.value) (get (order.ghosts).cmp walks.live a)
 
 -- there is one, and it asks
 abbrev pub IsAsking : Option Progress → Type 0

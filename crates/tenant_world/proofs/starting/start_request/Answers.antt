@@ -17,13 +17,13 @@ use Rattle.tenant_world.proofs.Remembering.{held-so, declined-memory, step-witho
 use Rattle.tenant_world.proofs.Begins.{acted-start_outcome, waiting-taken, waiting-accepted}
 use Rattle.tenant_world.proofs.starting.start_request.Goals as goal
 
-pub returns-in_err-post_effects-clause-declined : goal.returns-in_err-post_effects-clause-declined
-returns-in_err-post_effects-clause-declined c = λ g t q right tries r hand.
-    declined-memory g t q _ _ c.from_residual-in_err-post_effects.result
-    c.from_residual-in_err-post_effects.ensures.1 (c.in_err-post_effects.ensures.stays g t q r)
+pub returns-in_err-post_effects-in-Ok-clause-declined : goal.returns-in_err-post_effects-in-Ok-clause-declined
+returns-in_err-post_effects-in-Ok-clause-declined c = λ g t q right tries r hand.
+    declined-memory g t q _ _ c.from_residual-in_err-post_effects-in-Ok.result
+    c.from_residual-in_err-post_effects-in-Ok.ensures.1 (c.in_err-post_effects-in-Ok.ensures.stays g t q r)
 
-pub returns-clause-acted : goal.returns-clause-acted
-returns-clause-acted c = λ g t q right tries r hand.
+pub returns-in_ok-post_effects-in-Ok-clause-acted : goal.returns-in_ok-post_effects-in-Ok-clause-acted
+returns-in_ok-post_effects-in-Ok-clause-acted c = λ g t q right tries r hand.
     let a = c.args.actor in
     let actor = actor_view c.args.state.now in
     let new = actor_view c.put_next_in_hand.new.state in
@@ -36,9 +36,9 @@ returns-clause-acted c = λ g t q right tries r hand.
     let same_state : s ≡ first_state a q = c.in_ok-session.ensures g t q r in
     let free = held-so g t c.args.memory.now q c.is_held.result r c.is_held.ensures ∙ c.if-is_held.false in
     let start = text_begun g spaces w.origin s w.text in
-    let given = c.in_ok-effects.field-0.given in
-    let takes = c.in_ok-effects.ensures g right.readings tries in
-    let taken = c.in_ok-post_effects.ensures.taken g t q start.move r takes.told in
+    let given = c.in-Ok.field-0.given in
+    let takes = c.in-Ok.ensures g right.readings tries in
+    let taken = c.in_ok-post_effects-in-Ok.ensures.taken g t q start.move r takes.told in
     let put = c.put_next_in_hand.ensures
     ∙ ap (λ x. with_next_in_hand x actor) takes.hand in
     let told = takes.answer in
@@ -49,9 +49,9 @@ returns-clause-acted c = λ g t q right tries r hand.
     (text_begun g q.spaces w.origin x w.text) q)) memory new (answer_given given) in
     let R : StepAnswer → Type 0 = λ x. AcceptsOutcome g t a q (held_or q (start_outcome a behind
     (text_begun g q.spaces w.origin (first_state a q) w.text) q)) memory new x in
-    let answer = start_answer_view c.in_ok-answers.answers.given in
+    let answer = start_answer_view c.in_ok-answers-in-Ok.answers.given in
     let S : Outcome → Type 0 = λ x. AcceptsOutcome g t a q x memory new answer in
-    let told_so = ap start_answer_view c.in_ok-answers.ensures.given ∙ c.answer_of.ensures in
+    let told_so = ap start_answer_view c.in_ok-answers-in-Ok.ensures.given ∙ c.answer_of.ensures in
     subst S (waiting-taken g a actor q w actor.waiting first)
     (subst R (sym told_so) (subst Q same_state (subst P r.spaces here)))
 
@@ -62,36 +62,36 @@ returns-in_err-session-clause-no_memory c = λ g t q r none.
     (sym c.oldest.ensures ∙ ap (option_map (λ x. waiting_view x.now)) c.in-Some.is)
     (held-so g t c.args.memory.now q c.is_held.result r c.is_held.ensures ∙ c.if-is_held.false)
 
-pub returns-in_err-effects-clause-no_memory : goal.returns-in_err-effects-clause-no_memory
-returns-in_err-effects-clause-no_memory c = λ g t q r none.
+pub returns-in-Err-clause-no_memory : goal.returns-in-Err-clause-no_memory
+returns-in-Err-clause-no_memory c = λ g t q r none.
     let actor = actor_view c.args.state.now in
     waiting-accepted g c.args.actor actor q (waiting_view c.in-Some.waiting.now) actor.waiting
     (sym c.oldest.ensures ∙ ap (option_map (λ x. waiting_view x.now)) c.in-Some.is)
     (held-so g t c.args.memory.now q c.is_held.result r c.is_held.ensures ∙ c.if-is_held.false)
 
-pub returns-in_err-answers-clause-no_memory : goal.returns-in_err-answers-clause-no_memory
-returns-in_err-answers-clause-no_memory c = λ g t q r none.
+pub returns-in_err-answers-in-Ok-clause-no_memory : goal.returns-in_err-answers-in-Ok-clause-no_memory
+returns-in_err-answers-in-Ok-clause-no_memory c = λ g t q r none.
     let actor = actor_view c.args.state.now in
     waiting-accepted g c.args.actor actor q (waiting_view c.in-Some.waiting.now) actor.waiting
     (sym c.oldest.ensures ∙ ap (option_map (λ x. waiting_view x.now)) c.in-Some.is)
     (held-so g t c.args.memory.now q c.is_held.result r c.is_held.ensures ∙ c.if-is_held.false)
 
-pub returns-in_err-post_effects-clause-no_memory : goal.returns-in_err-post_effects-clause-no_memory
-returns-in_err-post_effects-clause-no_memory c = λ g t q r none.
+pub returns-in_err-post_effects-in-Ok-clause-no_memory : goal.returns-in_err-post_effects-in-Ok-clause-no_memory
+returns-in_err-post_effects-in-Ok-clause-no_memory c = λ g t q r none.
     let actor = actor_view c.args.state.now in
     waiting-accepted g c.args.actor actor q (waiting_view c.in-Some.waiting.now) actor.waiting
     (sym c.oldest.ensures ∙ ap (option_map (λ x. waiting_view x.now)) c.in-Some.is)
     (held-so g t c.args.memory.now q c.is_held.result r c.is_held.ensures ∙ c.if-is_held.false)
 
-pub returns-in_err-answers-clause-step : goal.returns-in_err-answers-clause-step
-returns-in_err-answers-clause-step c =
-    step-without-memory _ _ _ _ c.from_residual-in_err-answers.result
-    c.from_residual-in_err-answers.ensures.1 refl refl
+pub returns-in_err-answers-in-Ok-clause-step : goal.returns-in_err-answers-in-Ok-clause-step
+returns-in_err-answers-in-Ok-clause-step c =
+    step-without-memory _ _ _ _ c.from_residual-in_err-answers-in-Ok.result
+    c.from_residual-in_err-answers-in-Ok.ensures.1 refl refl
 
-pub returns-in_err-post_effects-clause-step : goal.returns-in_err-post_effects-clause-step
-returns-in_err-post_effects-clause-step c =
-    step-without-memory _ _ _ _ c.from_residual-in_err-post_effects.result
-    c.from_residual-in_err-post_effects.ensures.1 refl c.post_effects.ensures.opened
+pub returns-in_err-post_effects-in-Ok-clause-step : goal.returns-in_err-post_effects-in-Ok-clause-step
+returns-in_err-post_effects-in-Ok-clause-step c =
+    step-without-memory _ _ _ _ c.from_residual-in_err-post_effects-in-Ok.result
+    c.from_residual-in_err-post_effects-in-Ok.ensures.1 refl c.post_effects.ensures.opened
 
 pub returns-in_default-clause-acted : goal.returns-in_default-clause-acted
 returns-in_default-clause-acted c = λ g t q right tries r hand.

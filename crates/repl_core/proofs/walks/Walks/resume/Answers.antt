@@ -7,15 +7,15 @@ use Rattle.repl_core.proofs.WalkSteps.{walk-resumed, some-same, asks-same}
 use Rattle.repl_core.proofs.Steps.{put-so}
 use Rattle.repl_core.proofs.walks.Walks.resume.Goals as goal
 
-pub returns-clause-resumed : goal.returns-clause-resumed
-returns-clause-resumed c = λ run w p at walk there.
+pub returns-in-Ok-clause-resumed : goal.returns-in-Ok-clause-resumed
+returns-in-Ok-clause-resumed c = λ run w p at walk there.
     let answer = answer_view c.args.answer in
     let v = c.in-Some-Asks.walk in
     let found = sym c.in-Some-Asks.is ∙ c.take.ensures.taken ∙ at in
     let same = asks-same v w (sym c.in-Some-Asks.field-0-is ∙ some-same _ _ found) in
-    let put = put-so c.args.actor c.take.new.self c.put.new.self c.in_ok-later.later p c.put.result
+    let put = put-so c.args.actor c.take.new.self c.put.new.self c.in-Ok.later p c.put.result
     c.put.ensures.put c.put.ensures.stays c.take.ensures.gone there in
     let of_v = subst (λ x. IsWalkOf run (Progress.Asks x)) (sym same) walk in
-    let later = walk-resumed run v c.in_ok-later.later answer of_v c.in_ok-later.ensures.meaning in
+    let later = walk-resumed run v c.in-Ok.later answer of_v c.in-Ok.ensures.meaning in
     subst (λ x. IsWalkOf (run_with (exchange_from (ask_view x.ask) answer) run) p) same
     (subst (IsWalkOf (run_with (exchange_from (ask_view v.ask) answer) run)) put later)

@@ -11,4 +11,4 @@ returns-then-len-self c = λ g l stands.
     let room : c.len.result < c.args.self.now.steps = search rules in
     busy-enough l (actors_view c.args.self.now.actors) busy c.len.result c.args.self.now.steps
     stands.actors c.in_ok-found.ensures.order
-    (c.in_ok-busy.ensures ∙ ap agents_last (c.as_slice.ensures.value ∙ c.in_ok-found.ensures.names)) counted stands.steps room
+    (c.in_ok-busy.ensures ∙ ap agents_last c.in_ok-found.ensures.names) counted stands.steps room

@@ -18,7 +18,7 @@ use Rattle.tenant_asks.proofs.Remembering.{wanted-memory}
 use Rattle.tenant_world.proofs.Standing.{asks-by, asks-idle, done-by, carried-tenant, refuses-unlent}
 use Rattle.tenant_world.proofs.Standing.{lends-from, restored, does-acted, refuses-declined}
 use Rattle.tenant_world.proofs.Standing.{refuses-with, accepts-by}
-use Rattle.tenant_world.proofs.tenant.Tenant.answer_copied.Goals as goal
+use Rattle.tenant_world.proofs.tenant.Tenant.answer_leaving.Goals as goal
 
 pub returns-in_err-state-clause-refused : goal.returns-in_err-state-clause-refused
 returns-in_err-state-clause-refused c = λ g q s r right stands serves.
