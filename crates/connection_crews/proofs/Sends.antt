@@ -148,10 +148,10 @@ use Rattle.crossbeam_channel.proofs.flavors.array.Lockers.TheSendSync as lockers
 use Rattle.crossbeam_channel.proofs.flavors.array.Whole.TheSendSync as whole
 use Rattle.atomic_table.proofs.shared.Seat.TheSendSync as tickets
 use Rattle.atomic_table.proofs.badge.Badge.TheSendSync as badge
-use Rattle.connection_queue.proofs.feeding.Accepted.TheSendSync as accepted
-use Rattle.connection_queue.proofs.feeding.Hand.TheSendSync as known
-use Rattle.connection_queue.proofs.feeding.Rising.TheSendSync as rising
-use Rattle.connection_crews.specs.contracts.desk.Desk as desk
+use Rattle.connection_waits.proofs.desk.Desk.TheSendSync as desk
+use Rattle.connection_waits.proofs.feeding.Accepted.TheSendSync as accepted
+use Rattle.connection_waits.proofs.feeding.Hand.TheSendSync as known
+use Rattle.connection_waits.proofs.feeding.Rising.TheSendSync as rising
 use Rattle.connection_crews.specs.contracts.moves.Connection as connection
 use denote.Struct.Tuple.{TupleAt, type_at}
 use denote.Struct.Field.{row_field, shr_ref_field}
@@ -774,9 +774,6 @@ machine-send = declared_send machine.the_type (
   ),
 )
 
-desk-sync : IsSync desk.the_row
-desk-sync = search (sendable, crosses) depth 40 fits 20000
-
 stream-sync : IsSync tcp_stream.the_row
 stream-sync = search (sendable, crosses) depth 40 fits 20000
 
@@ -882,7 +879,7 @@ module _ (L : RattleType) (g : ledger.Ghosts L.Denot) (s : IsSend L)
       (
         shr_sync _ _ _ seen,
         (
-          shr_sync _ _ _ desk-sync,
+          shr_sync _ _ _ desk.the_sync,
           (shr_sync _ _ _ stream-sync, tt),
         ),
       ),

@@ -2,15 +2,14 @@
 ghost use Rattle.std.specs.Prelude.{◌≡◌, false};
 ghost use Rattle.crossbeam_channel.specs.Claims.{view, IsSeatAt};
 ghost use Rattle.crossbeam_channel.specs.Ends.{receives_on};
-ghost use Rattle.connection_queue.specs.Numbers.{hand};
+ghost use Rattle.connection_waits.specs.Numbers.{hand};
 
-use crate::desk::Desk;
 use crate::gate::Gate;
 use crate::moves::{Connection, bid_farewell, locked};
 use crate::reading::read_away;
 use crate::working::{serve_actions, serve_requests};
 use crate::writing::write_what_waits;
-use connection_queue::{Takings, Ticket, take};
+use connection_waits::{Desk, Takings, Ticket, take};
 use journal_book::{Places, SEATS, Seat};
 use knowing_book::{KnowingBook, Naming};
 use std::alloc::Global;

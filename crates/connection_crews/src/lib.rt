@@ -2,7 +2,6 @@
 #![tactic(auto)]
 
 mod crew;
-mod desk;
 mod errors;
 mod gate;
 mod moves;

@@ -1,9 +1,9 @@
 // The steps that a crew makes through the book, each under one hold of its lock.
 ghost use Rattle.std.specs.Prelude.{◌≡◌};
 
-use crate::desk::{Desk, Duty, Event, SeenCounts, Woken};
 use crate::gate::Gate;
 use bytes::Bytes;
+use connection_waits::{Desk, Duty, Event, SeenCounts, Woken};
 use journal_book::{Beside, Seat};
 use knowing_book::{Answered, Begun, Finish, KnowingBook, Naming, Question, Unasked, Unended};
 use repl_asks::Ask;

@@ -1,8 +1,8 @@
 // What the peer sends is read and heard.
-use crate::desk::Event;
 use crate::gate::Gate;
 use crate::moves::{Connection, NextWork, PieceHeard};
 use bytes::Bytes;
+use connection_waits::Event;
 use journal_book::Seat;
 use knowing_book::Naming;
 use std::io;

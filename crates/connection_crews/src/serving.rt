@@ -2,13 +2,13 @@
 ghost use Rattle.std.specs.Prelude.{◌≡◌, ◌<◌, [], true, false, IfOk};
 ghost use Rattle.crossbeam_channel.specs.Claims.{view, IsSeatAt};
 ghost use Rattle.crossbeam_channel.specs.Ends.{sends_on, receives_on};
-ghost use Rattle.connection_queue.specs.Numbers.{hand};
+ghost use Rattle.connection_waits.specs.Numbers.{hand};
 ghost use Rattle.connection_crews.specs.Reports.{IsReportOf};
 
 use crate::crew::{Crew, Post, Shift};
 use crate::errors::ServeError;
 use crate::gate::Gate;
-use connection_queue::{Accepted, Feed, Ticket, another_ticket, queue, send};
+use connection_waits::{Accepted, Feed, Ticket, another_ticket, queue, send};
 use journal_book::{Book, JournalEntry, Report, Seat};
 use knowing_book::{KnowingBook, Naming, Opened};
 use repl_core::Config;

@@ -1,8 +1,8 @@
 // The threads of a crew that read and evaluate: each ask and each end is handed in.
-use crate::desk::{Duty, Event};
 use crate::gate::Gate;
 use crate::moves::{Connection, Ended, EvaluationTold, NextWork};
 use crate::reading::{EMPTY_PIECE, Piece, ReadOutcome, read_piece};
+use connection_waits::{Duty, Event};
 use journal_book::Seat;
 use knowing_book::{Answered, Begun, Finish, Naming, Question, Stage};
 use repl_asks::Ask;

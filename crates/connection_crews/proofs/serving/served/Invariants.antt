@@ -1,7 +1,7 @@
 use Rattle.std.proofs.Common.{◌≡◌, true, vec_len}
 use Rattle.crossbeam_channel.specs.Claims.{view, IsSeatAt}
 use Rattle.crossbeam_channel.specs.Ends.{sends_on, receives_on}
-use Rattle.connection_queue.specs.Numbers.{hand}
+use Rattle.connection_waits.specs.Numbers.{hand}
 use Rattle.connection_crews.proofs.serving.served.Given as goal
 
 abbrev pub invariant-loop-i : goal.invariant-loop-i

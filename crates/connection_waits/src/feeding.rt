@@ -2,7 +2,7 @@
 ghost use Rattle.std.specs.Prelude.{◌≡◌, ◌+◌, ◌≤◌, ◌<◌, true, false, IfOk, IfSome, IfNone};
 ghost use Rattle.crossbeam_channel.specs.Claims.{view, IsSeatAt};
 ghost use Rattle.crossbeam_channel.specs.Ends.{sends_on, receives_on};
-ghost use Rattle.connection_queue.specs.Numbers.{hand};
+ghost use Rattle.connection_waits.specs.Numbers.{hand};
 
 use crossbeam_channel::protocol::{Lesson, Outcome, Protocol, Split};
 use crossbeam_channel::{Pass, RuledReceiver, RuledSender, bounded_with};
@@ -29,7 +29,7 @@ pub struct Rising;
 
 impl Protocol<Accepted, Hand> for Rising {
     ghost use Rattle.std.specs.Prelude.{true};
-    ghost use Rattle.connection_queue.specs.Numbers.{hand, QueueRises};
+    ghost use Rattle.connection_waits.specs.Numbers.{hand, QueueRises};
 
     ghost holds = { QueueRises };
 
@@ -40,7 +40,7 @@ struct Takes;
 
 impl Split<Hand> for Takes {
     ghost use Rattle.std.specs.Prelude.{false};
-    ghost use Rattle.connection_queue.specs.Numbers.{hand};
+    ghost use Rattle.connection_waits.specs.Numbers.{hand};
 
     ghost left = { λ v. v };
 
@@ -51,7 +51,7 @@ struct NumberSent;
 
 impl Outcome<Accepted, Hand> for NumberSent {
     ghost use Rattle.std.specs.Prelude.{◌≡◌, ◌+◌};
-    ghost use Rattle.connection_queue.specs.Numbers.{hand};
+    ghost use Rattle.connection_waits.specs.Numbers.{hand};
 
     ghost then = { λ v x w. w ≡ hand v.sends (v.number + 1) };
 }
@@ -64,7 +64,7 @@ struct Taken;
 
 impl Outcome<Accepted, Hand> for Taken {
     ghost use Rattle.std.specs.Prelude.{◌≡◌, ◌≤◌, ◌+◌, false};
-    ghost use Rattle.connection_queue.specs.Numbers.{hand};
+    ghost use Rattle.connection_waits.specs.Numbers.{hand};
 
     ghost then = { λ v x w. (v.number ≤ x.number) × (w ≡ hand false (x.number + 1)) };
 }

@@ -1,6 +1,6 @@
 use Rattle.std.proofs.Common.{ap, sym}
-use Rattle.connection_queue.proofs.Numbers.{sends}
-use Rattle.connection_queue.proofs.feeding.send.Goals as goal
+use Rattle.connection_waits.proofs.Numbers.{sends}
+use Rattle.connection_waits.proofs.feeding.send.Goals as goal
 
 pub send_as-requires-clause-rule : goal.send_as-requires-clause-rule
 send_as-requires-clause-rule g c =

@@ -3,7 +3,7 @@ use std::sync::{Condvar, Mutex, Wait};
 
 /// What a thread of a crew evaluates.
 #[derive(Clone, Copy, PartialEq, Eq)]
-pub(crate) enum Duty {
+pub enum Duty {
     /// What was asked for, in sessions and without one.
     Requests,
     /// The actions that were sent to agents.
@@ -16,7 +16,7 @@ const MOST_FORMS: u64 = 2;
 
 /// What a thread of a crew waits for.
 #[derive(Clone, Copy)]
-pub(crate) enum Event {
+pub enum Event {
     /// A message came, so that an actor may have something to begin.
     Request,
     /// Replies were taken out, so that there is room for more.
@@ -37,7 +37,7 @@ struct Count {
 
 /// Who is to go on behind messages that came.
 #[derive(Clone, Copy)]
-pub(crate) enum Woken {
+pub enum Woken {
     /// Nobody waits for them.
     Nobody,
     /// Who read them.
@@ -48,7 +48,7 @@ pub(crate) enum Woken {
 
 /// How often actions had ended and messages had come.
 #[derive(Clone, Copy)]
-pub(crate) struct SeenCounts {
+pub struct SeenCounts {
     turns: u64,
     requests: u64,
 }
@@ -135,7 +135,7 @@ impl Signs {
 
 /// Where the threads of a crew meet. Each waits for what concerns it.
 #[derive(Drop)]
-pub(crate) struct Desk {
+pub struct Desk {
     signs: Mutex<Signs>,
     requested: Condvar,
     emptied: Condvar,
@@ -145,7 +145,7 @@ pub(crate) struct Desk {
 }
 
 impl Desk {
-    pub(crate) fn new() -> Desk {
+    pub fn new() -> Desk {
         Desk {
             signs: Mutex::new(Signs {
                 requests: Count::none(),
@@ -172,7 +172,7 @@ impl Desk {
     }
 
     /// Has all threads end.
-    pub(crate) fn end<R: Wait>(&self, rt: &R) {
+    pub fn end<R: Wait>(&self, rt: &R) {
         self.signs.lock(rt).is_over = true;
         self.requested.notify_all();
         self.emptied.notify_all();
@@ -181,21 +181,21 @@ impl Desk {
         self.due.notify_all();
     }
 
-    pub(crate) fn is_over<R: Wait>(&self, rt: &R) -> bool {
+    pub fn is_over<R: Wait>(&self, rt: &R) -> bool {
         self.signs.lock(rt).is_over
     }
 
     /// The stream of the peer has a fault: nothing more of it is heard.
-    pub(crate) fn note_fault<R: Wait>(&self, rt: &R) {
+    pub fn note_fault<R: Wait>(&self, rt: &R) {
         self.signs.lock(rt).is_broken = true;
     }
 
-    pub(crate) fn is_broken<R: Wait>(&self, rt: &R) -> bool {
+    pub fn is_broken<R: Wait>(&self, rt: &R) -> bool {
         self.signs.lock(rt).is_broken
     }
 
     /// The peer sends no more.
-    pub(crate) fn end_reading<R: Wait>(&self, rt: &R) {
+    pub fn end_reading<R: Wait>(&self, rt: &R) {
         let mut signs = self.signs.lock(rt);
         signs.is_reading = false;
         signs.is_due = true;
@@ -205,13 +205,13 @@ impl Desk {
     }
 
     /// Whether the peer may send more.
-    pub(crate) fn is_reading<R: Wait>(&self, rt: &R) -> bool {
+    pub fn is_reading<R: Wait>(&self, rt: &R) -> bool {
         self.signs.lock(rt).is_reading
     }
 
     /// Whether something may still be sent to agents, if no request waits: by a form that runs, or
     /// by what the peer asks for.
-    pub(crate) fn may_send<R: Wait>(&self, rt: &R) -> bool {
+    pub fn may_send<R: Wait>(&self, rt: &R) -> bool {
         let signs = self.signs.lock(rt);
         signs.is_reading || 0 < signs.forms || 0 < signs.actions
     }
@@ -219,7 +219,7 @@ impl Desk {
     /// So many messages came. Each may be a request, or close a session that awaits. Answers who is
     /// to go on: who read them begins what a single small one asks for, where another thread is
     /// free to read.
-    pub(crate) fn note_messages<R: Wait>(&self, rt: &R, count: usize, is_small: bool) -> Woken {
+    pub fn note_messages<R: Wait>(&self, rt: &R, count: usize, is_small: bool) -> Woken {
         if count == 0 {
             return Woken::Nobody;
         }
@@ -237,7 +237,7 @@ impl Desk {
     }
 
     /// Wakes those who are to go on.
-    pub(crate) fn wake(&self, call: Woken) {
+    pub fn wake(&self, call: Woken) {
         if matches!(call, Woken::Others) {
             self.requested.notify_all();
             self.turned.notify_all();
@@ -245,19 +245,19 @@ impl Desk {
     }
 
     /// Whether as many forms are evaluated as may be at a time.
-    pub(crate) fn is_busy<R: Wait>(&self, rt: &R) -> bool {
+    pub fn is_busy<R: Wait>(&self, rt: &R) -> bool {
         MOST_FORMS <= self.signs.lock(rt).forms
     }
 
     /// Leaves it to another thread to read.
-    pub(crate) fn offer_reading<R: Wait>(&self, rt: &R) {
+    pub fn offer_reading<R: Wait>(&self, rt: &R) {
         self.signs.lock(rt).is_read = false;
         self.requested.notify_one();
     }
 
     /// Waits until a message comes once more than so often, nobody reads, or the peer sends no
     /// more. Answers whether it is now this thread that is to read.
-    pub(crate) fn wait_for_request<R: Wait>(&self, rt: &R, seen: u64) -> bool {
+    pub fn wait_for_request<R: Wait>(&self, rt: &R, seen: u64) -> bool {
         let mut signs = self.signs.lock(rt);
         signs.requests.waiting = signs.requests.waiting.saturating_add(1);
         let mut signs = self.requested.wait_while(rt, signs, |signs| {
@@ -273,14 +273,14 @@ impl Desk {
     }
 
     /// Something was sent to agents, or one was restarted.
-    pub(crate) fn wake_agents<R: Wait>(&self, rt: &R) {
+    pub fn wake_agents<R: Wait>(&self, rt: &R) {
         self.signs.lock(rt).are_agents_at_rest = false;
         self.note(rt, Event::Send);
     }
 
     /// No action has anything to begin. Where the peer sends no more, all may be done. How often
     /// something was sent until now is answered.
-    pub(crate) fn rest_agents<R: Wait>(&self, rt: &R) -> u64 {
+    pub fn rest_agents<R: Wait>(&self, rt: &R) -> u64 {
         let mut signs = self.signs.lock(rt);
         signs.are_agents_at_rest = true;
         let sends = signs.sends.came;
@@ -300,7 +300,7 @@ impl Desk {
     }
 
     /// How often actions have ended and messages have come until now.
-    pub(crate) fn turns_seen<R: Wait>(&self, rt: &R) -> SeenCounts {
+    pub fn turns_seen<R: Wait>(&self, rt: &R) -> SeenCounts {
         let signs = self.signs.lock(rt);
         SeenCounts {
             turns: signs.turns.came,
@@ -309,7 +309,7 @@ impl Desk {
     }
 
     /// The action that runs has asked often: nobody is to wait for the next to end.
-    pub(crate) fn note_long_action<R: Wait>(&self, rt: &R) {
+    pub fn note_long_action<R: Wait>(&self, rt: &R) {
         let mut signs = self.signs.lock(rt);
         signs.is_action_long = true;
         let is_turn_awaited = 0 < signs.turns.waiting;
@@ -321,7 +321,7 @@ impl Desk {
 
     /// Waits until an await may be met: until so many actions more ended, or some and no other ends
     /// soon, or a message came.
-    pub(crate) fn wait_for_turns<R: Wait>(&self, rt: &R, seen: SeenCounts, least: u64) {
+    pub fn wait_for_turns<R: Wait>(&self, rt: &R, seen: SeenCounts, least: u64) {
         let mut signs = self.signs.lock(rt);
         signs.turns.waiting = signs.turns.waiting.saturating_add(1);
         let mut signs = self.turned.wait_while(rt, signs, |signs| {
@@ -331,7 +331,7 @@ impl Desk {
     }
 
     /// The event came. All that wait for it go on.
-    pub(crate) fn note<R: Wait>(&self, rt: &R, event: Event) {
+    pub fn note<R: Wait>(&self, rt: &R, event: Event) {
         let is_waited_for = self.signs.lock(rt).note(event);
         if is_waited_for {
             self.bell(event).notify_all();
@@ -339,12 +339,12 @@ impl Desk {
     }
 
     /// How often the event came until now.
-    pub(crate) fn seen<R: Wait>(&self, rt: &R, event: Event) -> u64 {
+    pub fn seen<R: Wait>(&self, rt: &R, event: Event) -> u64 {
         self.signs.lock(rt).count(event).came
     }
 
     /// Waits until the event comes once more than so often.
-    pub(crate) fn wait<R: Wait>(&self, rt: &R, event: Event, seen: u64) {
+    pub fn wait<R: Wait>(&self, rt: &R, event: Event, seen: u64) {
         let mut signs = self.signs.lock(rt);
         let count = signs.count_mut(event);
         count.waiting = count.waiting.saturating_add(1);
@@ -365,7 +365,7 @@ impl Desk {
     }
 
     /// An evaluation is under way.
-    pub(crate) fn begin_evaluation<R: Wait>(&self, rt: &R, duty: Duty) {
+    pub fn begin_evaluation<R: Wait>(&self, rt: &R, duty: Duty) {
         let mut signs = self.signs.lock(rt);
         let count = signs.evaluations_mut(duty);
         *count = count.saturating_add(1);
@@ -375,7 +375,7 @@ impl Desk {
     }
 
     /// An evaluation ended. Where the peer sends no more, all may be done.
-    pub(crate) fn end_evaluation<R: Wait>(&self, rt: &R, duty: Duty) {
+    pub fn end_evaluation<R: Wait>(&self, rt: &R, duty: Duty) {
         let mut signs = self.signs.lock(rt);
         let count = signs.evaluations_mut(duty);
         *count = count.saturating_sub(1);
@@ -387,7 +387,7 @@ impl Desk {
     }
 
     /// Takes the pen: whether nobody wrote. Where somebody does, the writer is to look once more.
-    pub(crate) fn take_pen<R: Wait>(&self, rt: &R) -> bool {
+    pub fn take_pen<R: Wait>(&self, rt: &R) -> bool {
         let mut signs = self.signs.lock(rt);
         if signs.is_writing {
             signs.is_due = true;
@@ -399,7 +399,7 @@ impl Desk {
 
     /// Lays the pen down where there was nothing to write. Nobody else wanted it, since the book's
     /// lock was held; but the writer may have seen that somebody wrote.
-    pub(crate) fn return_pen<R: Wait>(&self, rt: &R) {
+    pub fn return_pen<R: Wait>(&self, rt: &R) {
         let mut signs = self.signs.lock(rt);
         signs.is_writing = false;
         let is_due = signs.is_due;
@@ -410,7 +410,7 @@ impl Desk {
     }
 
     /// Lays the pen down. Where others wanted it, or all may be done, the writer is to look.
-    pub(crate) fn lay_pen_down<R: Wait>(&self, rt: &R) {
+    pub fn lay_pen_down<R: Wait>(&self, rt: &R) {
         let mut signs = self.signs.lock(rt);
         signs.is_writing = false;
         if signs.is_due || !signs.is_reading {
@@ -421,7 +421,7 @@ impl Desk {
     }
 
     /// Waits until the writer is to look, and nobody writes.
-    pub(crate) fn wait_until_due<R: Wait>(&self, rt: &R) {
+    pub fn wait_until_due<R: Wait>(&self, rt: &R) {
         let signs = self.signs.lock(rt);
         let mut signs = self.due.wait_while(rt, signs, |signs| {
             (!signs.is_due || signs.is_writing) && !signs.is_over
@@ -431,7 +431,7 @@ impl Desk {
 
     /// Whether the peer sends no more, nothing is evaluated, no action is to begin, and nobody
     /// writes.
-    pub(crate) fn is_at_rest<R: Wait>(&self, rt: &R) -> bool {
+    pub fn is_at_rest<R: Wait>(&self, rt: &R) -> bool {
         let signs = self.signs.lock(rt);
         let is_idle = signs.forms == 0 && signs.actions == 0 && signs.are_agents_at_rest;
         !signs.is_reading && is_idle && !signs.is_writing

@@ -6,9 +6,9 @@ use mathlib.Core.Option.{some, some-ne-none}
 use lib.ListN.{get_elem?}
 use Rattle.atomic_table.proofs.Lists.{at_set, at_snoc}
 use Rattle.crossbeam_channel.specs.Fifo.{Pushes, Pops, Forks}
-use Rattle.connection_queue.specs.declared.feeding.Accepted.{Accepted}
-use Rattle.connection_queue.specs.declared.feeding.Hand.{Hand}
-use Rattle.connection_queue.specs.Numbers.{hand, IsRising, TicketAgrees, QueueRises}
+use Rattle.connection_waits.specs.declared.feeding.Accepted.{Accepted}
+use Rattle.connection_waits.specs.declared.feeding.Hand.{Hand}
+use Rattle.connection_waits.specs.Numbers.{hand, IsRising, TicketAgrees, QueueRises}
 
 abbrev All : (ℕ → Hand → Type 0) → List Hand → Type 0
 All F views = (port : ℕ) (v : Hand) → get_elem? views port ≡ some v → F port v

@@ -2,8 +2,8 @@
 use Rattle.std.specs.Prelude.{◌≡◌, ℕ, ◌+◌, ◌≤◌, Bool, true, false, List, [], ◌∷◌}
 use mathlib.Core.Option.{some}
 use lib.ListN.{get_elem?}
-use Rattle.connection_queue.specs.declared.feeding.Accepted.{Accepted}
-use Rattle.connection_queue.specs.declared.feeding.Hand.{Hand}
+use Rattle.connection_waits.specs.declared.feeding.Accepted.{Accepted}
+use Rattle.connection_waits.specs.declared.feeding.Hand.{Hand}
 
 abbrev pub hand : Bool → ℕ → Hand
 hand sends number = record { sends = sends; number = number }
