@@ -8,6 +8,7 @@ use journal_book::{Beside, Seat};
 use knowing_book::{Answered, Begun, Finish, KnowingBook, Naming, Question, Unasked, Unended};
 use repl_asks::Ask;
 use repl_core::{Refused, Step, StepAnswer};
+use repl_reader::ReadText;
 use server_rules::{Actor, Refusal, Wire};
 use std::alloc::Global;
 use std::hint::spin_loop;
@@ -15,7 +16,6 @@ use std::net::{Shutdown, TcpStream};
 use std::sync::ledger::Ledger;
 use std::sync::{Mutex, MutexGuard, Wait};
 use std::thread;
-use tenant_parts::ReadText;
 
 // How often the book's lock is tried before a thread sleeps for it, how many pauses lie between two
 // tries, and after how many tries other threads may run.

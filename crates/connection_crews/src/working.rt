@@ -6,9 +6,9 @@ use connection_waits::{Duty, Event};
 use journal_book::Seat;
 use knowing_book::{Answered, Begun, Finish, Naming, Question, Stage};
 use repl_asks::Ask;
+use repl_reader::ReadText;
 use std::sync::Wait;
 use std::sync::ledger::Ledger;
-use tenant_parts::ReadText;
 
 // How many more starts and asks a thread makes for a message that it read. Behind that another
 // thread reads on. An action that makes as many is long.

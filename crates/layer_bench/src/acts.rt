@@ -6,13 +6,13 @@ use bytes::Bytes;
 use journal_book::{Beside, Book, JournalEntry, Places};
 use knowing_book::{Answered, Begun, Finish, KnowingBook, Naming, Opened, Question, Stage};
 use repl_core::{Config, RETRIES, STEPS, SharedText, Step};
+use repl_reader::ReadText;
 use server_rules::Actor;
 use std::alloc::{AllocError, Global};
 use std::io;
 use std::marker::Brand;
 use std::sync::ledger::{Blank, Ledger};
 use std::time::{Clock, Instant};
-use tenant_parts::ReadText;
 
 // The greatest length of a piece, and of a text that is read within an act.
 const PIECE: usize = 2_048;

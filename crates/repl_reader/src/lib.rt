@@ -13,6 +13,7 @@ pub mod laws;
 mod maps;
 mod nest;
 mod next;
+mod read_text;
 mod reading;
 mod strings;
 mod text;
@@ -20,3 +21,4 @@ mod tokens;
 
 pub use fault::{FaultKind, ReaderFault};
 pub use forms::{ProgramForms, read_all};
+pub use read_text::{ReadText, take_if_of};

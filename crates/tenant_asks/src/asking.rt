@@ -35,6 +35,7 @@ use crate::memory::Remembered;
 use crate::naming::name;
 use crate::sends;
 use crate::sends::{Sender, session_of};
+use crate::telling::is_told;
 use ref_history::RingHistory;
 use ref_table::RefTable;
 use repl_asks::{Answer, Ask, Exchange, Sending, is_fixed};
@@ -43,7 +44,7 @@ use server_rules::{Actor, Refusal};
 use std::alloc::{AllocError, Global};
 use std::boxed::Box;
 use std::sync::Arc;
-use tenant_parts::{ActorState, AnswerCopies, Attempts, WorkInHand, call, is_told};
+use tenant_parts::{ActorState, AnswerCopies, Attempts, WorkInHand, call};
 
 // The first number that is none of the language.
 const END_OF_NUMBERS: u64 = 0x8000_0000_0000_0000;

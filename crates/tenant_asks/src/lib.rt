@@ -12,6 +12,7 @@ mod keeping;
 mod memory;
 mod naming;
 mod sends;
+mod telling;
 
 pub use acting::interrupt;
 pub use answers::{AskAnswer, AskAnswers};

@@ -8,10 +8,9 @@ ghost use Rattle.repl_replies.specs.Inside.View.{origin_view};
 ghost use Rattle.tenant_parts.specs.Spelled.{SpellsEnd, TellsEnd};
 
 use crate::actor::ActorState;
-use crate::read_text::{ReadText, take_if_of};
 use crate::request::{Run, Waiting, WorkInHand};
 use crate::spelled::{EndReplies, SpelledEnd};
-use repl_reader::{ProgramForms, read_all};
+use repl_reader::{ProgramForms, ReadText, read_all, take_if_of};
 use repl_replies::Origin;
 use std::alloc::{AllocError, Global};
 

@@ -11,8 +11,8 @@ use std::collections::BTreeMap;
 /// Where the attempts read that run: one for each actor at the most.
 #[derive(Drop)]
 pub struct Attempts {
-    // whose they are
-    pub(crate) tenant: u64,
+    /// Whose they are.
+    pub tenant: u64,
     pub(crate) points: BTreeMap<Actor, Point>,
 }
 

@@ -11,10 +11,8 @@ mod calling;
 mod copies;
 mod outbox;
 mod queues;
-mod read_text;
 mod request;
 mod spelled;
-mod telling;
 
 pub use actor::ActorState;
 pub use actors::Actors;
@@ -24,7 +22,5 @@ pub use batch::Batch;
 pub use calling::call;
 pub use copies::AnswerCopies;
 pub use outbox::Outbox;
-pub use read_text::ReadText;
 pub use request::{Manner, ProgramText, Run, Waiting, WorkInHand};
 pub use spelled::{Addressee, EndReplies, SpelledEnd, ToldResult};
-pub use telling::is_told;

@@ -1,10 +1,10 @@
-// A text that was read.
+// A text that was read before its forms are wanted.
 ghost use Rattle.std.specs.Prelude.{◌≡◌, true, IfOk, IfSome, string_bytes};
 ghost use Rattle.value_data.specs.Inside.View.{items_view};
 ghost use Rattle.repl_reader.specs.Grammar.{IsReading};
 ghost use Rattle.repl_reader.specs.Inside.View.{fault_option};
 
-use repl_reader::{ProgramForms, read_all};
+use crate::forms::{ProgramForms, read_all};
 use std::alloc::{AllocError, Global};
 use std::marker::Model;
 
@@ -61,7 +61,7 @@ impl ReadText {
 }
 
 /// The forms of a text, if they are what was read. What was read of another text stays.
-pub(crate) fn take_if_of(read: &mut Option<ReadText>, text: &str) -> Option<ProgramForms>
+pub fn take_if_of(read: &mut Option<ReadText>, text: &str) -> Option<ProgramForms>
     ensures { IfSome result (λ it. IsReading text.now (items_view it.forms.items)
         (fault_option it.fault)) }
 {

@@ -10,17 +10,17 @@ ghost use Rattle.tenant_parts.specs.Bounds.{is_bounded};
 ghost use Rattle.tenant_parts.specs.Attempts.{Reaches};
 ghost use Rattle.tenant_parts.specs.Serving.{ServesWithAttempts};
 
-use crate::attempts::Attempts;
 use ref_history::RingHistory;
 use ref_table::RefTable;
 use repl_asks::{Ask, Intent};
 use repl_values::{Owner, RefName};
 use server_rules::Actor;
 use std::alloc::Global;
+use tenant_parts::Attempts;
 
 /// Whether the refs would tell anything where this is asked. A commit is looked through with memory
 /// where there is some (`RefTable::accepts`).
-pub fn is_told(
+pub(crate) fn is_told(
     alloc: Global,
     refs: &RefTable<RingHistory>,
     attempts: &Attempts,
