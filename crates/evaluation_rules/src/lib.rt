@@ -5,7 +5,7 @@
 //! And what calls of the functions that ask the store come to, before anybody is asked: a fault, a
 //! read, a set or an ensure in the attempt, or an ask whose answer is the value. The kinds of all
 //! arguments are looked at first, from the left; then whether a transaction runs; then what a shared
-//! ref forbids.
+//! ref forbids. For calls of a program's functions, their parameters are bound.
 #![tactic(auto)]
 
 mod agents;
@@ -16,6 +16,7 @@ mod bounds;
 mod limits;
 mod occasion;
 mod outcome;
+mod parameters;
 mod rules;
 mod sending;
 mod shared;
@@ -26,6 +27,7 @@ pub use applying::{call, call_in_action};
 pub use limits::{CALLS, ROOM};
 pub use occasion::Occasion;
 pub use outcome::{Addressed, Altered, Call, Swapped};
+pub use parameters::{bind_parameters, full_name, get_arguments};
 pub use rules::may_hold;
 pub use sending::{Dispatch, agent_to_send};
 pub use shared::call_in_shared_text;

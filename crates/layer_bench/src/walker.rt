@@ -3,10 +3,10 @@ use crate::number_of;
 use repl_asks::{Answer, Ask, End, Job, Reading, Resolution, Verdict, Work};
 use repl_reader::read_all;
 use repl_values::{Owner, RefName, Value};
+use repl_walker::{Reached, begin};
 use std::alloc::{AllocError, Global};
 use std::str::SplitWhitespace;
 use std::sync::ArcStr;
-use walker_machine::{Reached, begin};
 
 #[derive(Clone, Copy, Debug)]
 pub(crate) struct Size {

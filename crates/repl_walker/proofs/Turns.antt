@@ -1,5 +1,5 @@
 -- Answers in a row, for the proof that a walk ends.
-use Rattle.std.proofs.Common.{◌≡◌, ℕ, ◌+◌, ◌*◌, ◌<◌, ◌≤◌, ◌^◌, ◌⊎◌, Bool, true, false, refl, sym}
+use Rattle.std.proofs.Common.{◌≡◌, ℕ, ◌<◌, ◌≤◌, ◌^◌, ◌⊎◌, Bool, true, false, refl, sym}
 use Rattle.std.proofs.Common.{subst, inl, inr, arith}
 use Rattle.walker_state.specs.Position.{Position, outer_calls, outer_size, IsLess, LaterIn, IsLater}
 use Rattle.repl_walker.specs.Positions.{rank, IsOuter, OuterIn, walk_position, calls_left}

@@ -2,7 +2,7 @@
 -- answer leads on.
 use Rattle.std.specs.Prelude.{◌≡◌, ℕ, ◌+◌, ◌*◌, ◌<◌, ◌≤◌, ◌⊎◌, Bool, true, false, if◌then◌else◌, ⊤}
 use Rattle.walker_state.specs.Position.{Position, outer_calls, outer_size, IsLater}
-use Rattle.walker_machine.specs.Waits.{position_of}
+use Rattle.repl_walker.specs.Steps.{position_of}
 use Rattle.repl_walker.specs.declared.waiting.Walk.{Walk}
 use Rattle.repl_walker.specs.declared.waiting.Progress.{Progress}
 

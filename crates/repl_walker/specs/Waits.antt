@@ -5,7 +5,7 @@ use Rattle.repl_asks.specs.Inside.View.{ask_view, trace_view}
 use Rattle.repl_asks.specs.Job.{JobData}
 use Rattle.repl_asks.specs.Inside.Jobs.{job_view, finished_view}
 use Rattle.repl_asks.specs.InteractionTree.{InteractionTree, finished, asks}
-use Rattle.walker_machine.specs.Waits as machine
+use Rattle.repl_walker.specs.Steps as machine
 use Rattle.repl_walker.specs.declared.waiting.Walk.{Walk}
 use Rattle.repl_walker.specs.declared.waiting.Progress.{Progress}
 use Rattle.repl_walker.specs.Led.{Recorded}

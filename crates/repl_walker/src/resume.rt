@@ -3,18 +3,18 @@ ghost use Rattle.std.specs.Prelude.{◌≡◌, ◌≤◌, ◌++◌, ◌∷◌, [
 ghost use Rattle.repl_asks.specs.Inside.View.{ask_view, answer_view, trace_view};
 ghost use Rattle.repl_asks.specs.Inside.Jobs.{job_view};
 ghost use Rattle.evaluation_rules.specs.Evaluation.{evaluation};
-ghost use Rattle.walker_machine.specs.Waits.{reached_tree, most_calls_of, IsLaterReached};
+ghost use Rattle.repl_walker.specs.Steps.{reached_tree, most_calls_of, IsLaterReached};
 ghost use Rattle.walker_state.specs.Position.{Position};
 ghost use Rattle.repl_walker.specs.Led.{LedTo};
 ghost use Rattle.repl_walker.specs.Waits.{progress_tree, progress_job, progress_trace};
 ghost use Rattle.repl_walker.specs.Positions.{most_calls, IsLaterProgress};
 
 use crate::ending::Ending;
+use crate::steps::{Reached, begin};
 use crate::waiting::{Progress, Walk};
 use evaluation_rules::CALLS;
 use repl_asks::{Answer, Ask, Exchange, Job, Trace};
 use std::alloc::{AllocError, Global};
-use walker_machine::{Reached, begin};
 
 /// Begins the job, up to its first ask or its end. It fails only for want of memory.
 pub fn start(alloc: Global, job: &Job) -> Result<Progress, AllocError>

@@ -3,14 +3,14 @@ ghost use Rattle.std.specs.Prelude.{◌≡◌, IfOk};
 ghost use Rattle.repl_asks.specs.Inside.View.{ask_view, answer_view, trace_view};
 ghost use Rattle.repl_asks.specs.Inside.Jobs.{job_view};
 ghost use Rattle.repl_asks.specs.InteractionTree.{asks};
-ghost use Rattle.walker_machine.specs.Waits.{tree_behind};
+ghost use Rattle.repl_walker.specs.Steps.{tree_behind};
 ghost use Rattle.repl_walker.specs.Led.{LedTo};
 
 use crate::ending::Ending;
 use crate::resume::{progress, with_exchange};
+use crate::steps::WaitingEvaluation;
 use repl_asks::{Answer, Ask, Exchange, Job, Trace};
 use std::alloc::{AllocError, Global};
-use walker_machine::WaitingEvaluation;
 
 /// An evaluation that waits for the answer to its ask: its job, and what was asked and answered
 /// before.

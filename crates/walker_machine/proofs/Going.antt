@@ -1,8 +1,7 @@
 -- An evaluation that went on.
-use Rattle.std.proofs.Common.{◌≡◌, ◌∙◌, ap, arith, false, ℕ, ◌+◌, ◌<◌, ◌≤◌, Result, Ok, Err, IfOk}
+use Rattle.std.proofs.Common.{◌≡◌, ◌∙◌, ap, arith, ℕ, ◌+◌, ◌<◌, ◌≤◌, Result, Ok, Err, IfOk}
 use Rattle.walker_state.specs.Size.{frames_size}
-use Rattle.walker_state.specs.Position.{TransactionPosition, around, IsLater}
-use Rattle.walker_state.specs.Position.{IsOn, control_position, Position, outer_calls, LeadsOnWithin}
+use Rattle.walker_state.specs.Position.{around, IsLater, control_position, Position, LeadsOnWithin}
 use Rattle.walker_state.specs.Position.{wanted_position, control_around, control_calls}
 use Rattle.walker_state.specs.Position.{entered_calls}
 use Rattle.walker_state.specs.declared.frames.Control.{Control}
@@ -18,13 +17,6 @@ pub leads-later : {E : Type 0} (r : Result Control E) (work : ℕ) (before new :
 leads-later (Ok c) work before new old same fewer smaller on =
     later_smaller _ _ _ _ _ _ (on.around ∙ same) (omega arith) (omega arith)
 leads-later (Err e) work before new old same fewer smaller on = tt
-
--- without an answer, and outside of transactions
-pub begun-calls : (new old : Position) → old.transaction.runs ≡ false → IsOn new old → outer_calls new ≤ old.calls
-unfolding IsOn
-begun-calls new old outside on =
-    let runs : new.transaction.runs ≡ false = ap (λ (a : TransactionPosition). a.runs) on.0 ∙ outside in
-    rw runs on.1
 
 pub leads-within : {E : Type 0} (r : Result Control E) (m n : ℕ) (old new : State) → m ≤ n
     → IfOk r (LeadsOnWithin m old new) → IfOk r (LeadsOnWithin n old new)

@@ -1,4 +1,4 @@
 pub mod Evaluating
 pub mod Altering
-pub mod Beginning
+pub mod Collecting
 pub mod Going

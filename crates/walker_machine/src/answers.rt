@@ -34,7 +34,8 @@ use walker_state::{
     note_or_retry, permit, settle, settle_send, settle_swap,
 };
 
-pub(crate) fn use_answer(
+/// The answer goes to what it was wanted for. It fails only for want of memory.
+pub fn use_answer(
     alloc: Global,
     state: &mut State,
     wanted: Wanted,

@@ -22,16 +22,14 @@ ghost use Rattle.evaluation_rules.specs.Evaluation.{value_at};
 use crate::update::call_update;
 use core_collections::MapFunction;
 use core_functions::CoreFunction;
+use evaluation_rules::{bind_parameters, full_name, get_arguments};
 use repl_asks::NamedFunction;
 use repl_values::{Value, copy_text, too_many_calls, wrong_arity};
 use special_forms::Function;
 use std::alloc::{AllocError, Global};
 use std::mem;
 use std::sync::{Arc, ArcStr};
-use walker_state::{
-    Callee, Control, Frame, Place, State, bind_parameters, call_core, call_store, full_name,
-    get_arguments, next_in_body,
-};
+use walker_state::{Callee, Control, Frame, Place, State, call_core, call_store, next_in_body};
 
 // One call is taken from the budget, and the callee is applied.
 #[tactic(auto, using(walker_state::proofs::Stepping::steps), unfolding(evaluation_rules::specs::Calls::counted_call))]
@@ -58,9 +56,10 @@ pub(crate) fn call(
     }
 }
 
-// One call is taken from the budget, and the function is applied.
+/// One call is taken from the budget, and the function is applied. It fails only for want of
+/// memory.
 #[tactic(auto, using(walker_state::proofs::Stepping::steps), unfolding(evaluation_rules::specs::Applying::function_called))]
-pub(crate) fn call_named(
+pub fn call_named(
     alloc: Global,
     state: &mut State,
     function: NamedFunction,
@@ -153,8 +152,9 @@ fn call_function(
     Ok(Control::Fault(fault))
 }
 
-// The function's body is evaluated with its parameters as the only locals.
-pub(crate) fn enter(
+/// The function's body is evaluated with its parameters as the only locals. It fails only for want
+/// of memory.
+pub fn enter(
     alloc: Global,
     state: &mut State,
     function: Arc<Function>,

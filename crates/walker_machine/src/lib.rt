@@ -1,21 +1,23 @@
-//! The machine of the walker: the frames of an evaluation, and its steps from one ask to the next.
-//!
-//! It has no store and no stack of its own calls. `begin` evaluates a job up to its first ask, and
-//! `WaitingEvaluation::go_on` goes on with an answer.
+//! The steps of the walker: what a form's evaluation begins with, what a call comes to, and what
+//! becomes of an answer. `repl_walker` takes them, from one ask to the next.
 #![tactic(auto)]
 
 mod alter;
 mod answers;
 mod calls;
-mod define;
-mod evaluate;
-mod give;
-mod position;
+mod collect;
+mod defining;
+mod forms;
+mod names;
 mod rows;
 mod special;
-mod steps;
 mod swap;
 mod update;
-mod work;
 
-pub use steps::{Reached, WaitingEvaluation, begin};
+pub use answers::use_answer;
+pub use calls::{call_named, enter};
+pub use defining::define;
+pub use forms::evaluate;
+pub use names::names_function;
+pub use rows::{next_argument, next_binding, next_in_logic, next_item};
+pub use update::give_to_store;

@@ -13,14 +13,15 @@ ghost use Rattle.evaluation_rules.specs.Evaluation.{value_at};
 ghost use Rattle.evaluation_rules.specs.SpecialForms.{let_value, logic_value};
 
 use crate::calls::call;
+use crate::collect::make_collection;
 use repl_values::Value;
 use special_forms::{Forms, LetBinding, Logic};
 use std::alloc::{AllocError, Global};
-use walker_state::{Callee, Collection, Control, Frame, State, make_collection, next_in_body};
+use walker_state::{Callee, Collection, Control, Frame, State, next_in_body};
 
-// The next argument is evaluated, or the function is called.
+/// The next argument is evaluated, or the function is called. It fails only for want of memory.
 #[tactic(auto, using(crate::proofs::Evaluating::steps))]
-pub(crate) fn next_argument(
+pub fn next_argument(
     alloc: Global,
     state: &mut State,
     callee: Callee,
@@ -42,9 +43,10 @@ pub(crate) fn next_argument(
     Ok(Control::Evaluate(form, room))
 }
 
-// The next item of a vector or a map is evaluated, or it is made.
+/// The next item of a vector or a map is evaluated, or it is made. It fails only for want of
+/// memory.
 #[tactic(auto, using(crate::proofs::Evaluating::steps))]
-pub(crate) fn next_item(
+pub fn next_item(
     alloc: Global,
     state: &mut State,
     kind: Collection,
@@ -68,8 +70,9 @@ pub(crate) fn next_item(
     }
 }
 
-// The next form of `and` or `or` is evaluated, unless the last value decides.
-pub(crate) fn next_in_logic(
+/// The next form of `and` or `or` is evaluated, unless the last value decides. It fails only for
+/// want of memory.
+pub fn next_in_logic(
     state: &mut State,
     logic: Logic,
     last: Value,
@@ -93,8 +96,8 @@ pub(crate) fn next_in_logic(
     }
 }
 
-// The next binding's form is evaluated, or the body.
-pub(crate) fn next_binding(
+/// The next binding's form is evaluated, or the body. It fails only for want of memory.
+pub fn next_binding(
     alloc: Global,
     state: &mut State,
     mut bindings: Forms,

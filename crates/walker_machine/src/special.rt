@@ -20,7 +20,7 @@ ghost use Rattle.evaluation_rules.specs.SharedText.{outside_shared_text};
 ghost use Rattle.evaluation_rules.specs.SpecialForms.{entry_value};
 ghost use Rattle.evaluation_rules.specs.SpecialForms.{shape_value, special_value};
 
-use crate::define::define_function;
+use crate::defining::define_function;
 use crate::rows::{next_binding, next_in_logic};
 use repl_values::{Rule, Value, bad_form, broken_rule};
 use special_forms::{Forms, Shape, SpecialForm, shape_of};

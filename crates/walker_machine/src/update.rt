@@ -17,7 +17,7 @@ ghost use Rattle.walker_state.specs.Size.{store_frame_size};
 ghost use Rattle.walker_state.specs.Position.{LeadsOnWithin};
 
 use crate::alter::{call_alter, call_altering};
-use crate::evaluate::evaluate_symbol;
+use crate::forms::evaluate_symbol;
 use crate::rows::next_argument;
 use evaluation_rules::Update;
 use repl_asks::NamedFunction;
@@ -65,8 +65,8 @@ pub(crate) fn begin_update(
     }
 }
 
-// The value goes to a function that asks the store.
-pub(crate) fn give_to_store(
+/// The value goes to a function that asks the store. It fails only for want of memory.
+pub fn give_to_store(
     alloc: Global,
     state: &mut State,
     frame: StoreFrame,

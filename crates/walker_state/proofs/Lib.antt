@@ -1,7 +1,6 @@
 pub mod Stepping
 pub mod Laters
 pub mod Noting
-pub mod Collecting
 pub mod Printing
 pub mod Swapping
 pub mod Sent

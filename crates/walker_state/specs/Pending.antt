@@ -7,7 +7,6 @@ use Rattle.repl_values.specs.Inside.FaultView.{failure_of}
 use Rattle.repl_asks.specs.Exchange.{AnswerData, ResolutionData, resolution_in, value_in}
 use Rattle.repl_asks.specs.Exchange.{reading_in, VerdictData, verdict_in, permission_in}
 use Rattle.repl_asks.specs.Inside.View.{ask_view, name_view, sending_view}
-use Rattle.repl_asks.specs.declared.answer.Resolution.{Resolution}
 use Rattle.repl_asks.specs.InteractionTree.{InteractionTree, asks}
 use Rattle.special_forms.specs.Inside.Seen.{forms_view, function_view}
 use Rattle.repl_asks.specs.Accesses.{nothing_noted}

@@ -6,7 +6,7 @@ use Rattle.value_data.specs.Datum.{nil}
 use Rattle.special_forms.specs.Inside.Seen.{forms_view}
 use Rattle.repl_asks.specs.Accesses.{AttemptData, nothing_noted}
 use Rattle.tx_attempt.specs.Inside.Seen.{attempt_view}
-use Rattle.evaluation_rules.specs.Doing.{Kept, Doing, left}
+use Rattle.evaluation_rules.specs.Doing.{Kept, Doing}
 use Rattle.evaluation_rules.specs.Tree.{with_attempt}
 use Rattle.evaluation_rules.specs.Places.{PlaceData}
 use Rattle.evaluation_rules.specs.Rows.{value_of_last}

@@ -10,9 +10,9 @@ ghost use Rattle.walker_state.specs.Pending.{from_state, tree};
 ghost use Rattle.walker_state.specs.Position.{LeadsOnWithin};
 ghost use Rattle.walker_state.specs.declared.frames.State.{State};
 
-use crate::arguments::full_name;
 use crate::frames::Control;
 use core_functions::StoreFunction;
+use evaluation_rules::full_name;
 use repl_values::{Rule, broken_rule, wrong_arity};
 use special_forms::Function;
 use std::alloc::{AllocError, Global};

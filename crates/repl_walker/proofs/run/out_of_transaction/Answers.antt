@@ -1,4 +1,4 @@
-use Rattle.std.proofs.Common.{◌≡◌, sym, subst, ◌∙◌}
+use Rattle.std.proofs.Common.{sym, subst, ◌∙◌}
 use Rattle.repl_walker.specs.Waits.{WentOn}
 use Rattle.repl_walker.specs.Positions.{walk_position, IsOuterProgress}
 use Rattle.repl_walker.specs.declared.waiting.Progress.{Progress}

@@ -1,4 +1,4 @@
-use Rattle.std.proofs.Common.{◌≡◌, ◌≤◌, ℕ, sym, subst, ◌∙◌}
+use Rattle.std.proofs.Common.{◌≤◌, ℕ, sym, subst, ◌∙◌}
 use Rattle.walker_state.specs.Position.{outer_calls}
 use Rattle.repl_walker.specs.Waits.{WentOn}
 use Rattle.repl_walker.specs.Positions.{walk_position, IsOuterProgress, IsSettled}

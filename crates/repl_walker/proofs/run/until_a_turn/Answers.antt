@@ -1,4 +1,4 @@
-use Rattle.std.proofs.Common.{◌≡◌, ◌<◌, ◌≤◌, ℕ, sym, subst, ◌∙◌, arith}
+use Rattle.std.proofs.Common.{◌<◌, ◌≤◌, ℕ, sym, subst, ◌∙◌, arith}
 use Rattle.repl_walker.specs.Waits.{WentOn}
 use Rattle.repl_walker.specs.Positions.{rank, walk_position, IsLaterProgress}
 use Rattle.repl_walker.specs.declared.waiting.Progress.{Progress}

@@ -1,6 +1,6 @@
 use Rattle.repl_asks.specs.Inside.View.{ask_view, answer_view, trace_view}
 use Rattle.repl_asks.specs.Inside.Jobs.{job_view}
-use Rattle.walker_machine.specs.Waits.{tree_behind}
+use Rattle.repl_walker.specs.Steps.{tree_behind}
 use Rattle.repl_walker.proofs.Leading.{led-to-answered}
 use Rattle.repl_walker.proofs.waiting.Walk.resume.Goals as goal
 

@@ -1,8 +1,0 @@
-use Rattle.value_data.specs.Inside.View.{view}
-use Rattle.walker_machine.proofs.Beginning.{begun-shared}
-use Rattle.walker_machine.proofs.work.begin_shared_form.Goals as goal
-
-pub returns-clause-meaning : goal.returns-clause-meaning
-returns-clause-meaning c = λ s placed.
-    begun-shared (view c.args.form.now) (view c.in_ok-copy.field-0) s c.if-not-is_definition.ensures
-    c.in_ok-copy.ensures placed
