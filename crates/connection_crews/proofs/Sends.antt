@@ -571,8 +571,15 @@ spaces-send = declared_send spaces.the_type (
   (shared_names-send, tt),
 )
 
+row-inside-send : (R : RattleType) → IsSend R → IsSend (row_inside.the_row R)
+row-inside-send R s = declared_send (row_inside.the_type R)
+    (heap.send, (heap.Vec-send _ (heap.Vec-send R s), (search sendable, (search sendable, tt))))
+
+row-send : (R : RattleType) → IsSend R → IsSend (row.the_row R)
+row-send R s = search (view_send, row-inside-send)
+
 atoms-send : IsSend atoms.the_row
-atoms-send = search (made, value-send, heap.Vec-send) depth 30 fits 20000
+atoms-send = declared_send atoms.the_type (row-send _ value-send, tt)
 
 action-send : IsSend action.the_row
 action-send =
@@ -608,7 +615,7 @@ agents-send : IsSend agents.the_row
 agents-send = declared_send agents.the_type (
   heap.send,
   (
-    heap.Vec-send _ cell-send,
+    row-send _ cell-send,
     (
       turns-send,
       (
@@ -624,13 +631,6 @@ cells-send = declared_send cells.the_type (atoms-send, (agents-send, tt))
 
 sessions-send : IsSend sessions.the_row
 sessions-send = search (sendable, crosses, maps.crosses, session_state-send) depth 40 fits 20000
-
-row-inside-send : (R : RattleType) → IsSend R → IsSend (row_inside.the_row R)
-row-inside-send R s = declared_send (row_inside.the_type R)
-    (heap.send, (heap.Vec-send _ (heap.Vec-send R s), (search sendable, (search sendable, tt))))
-
-row-send : (R : RattleType) → IsSend R → IsSend (row.the_row R)
-row-send R s = search (view_send, row-inside-send)
 
 number32 : IsSend denote.Builtin.u32
 number32 = search sendable

@@ -1,6 +1,7 @@
-//! Lists that grow by pages: whatever is put into them never moves.
+//! Lists that grow by pages, so that putting in one item never moves all others.
 #![tactic(auto)]
 
+mod growing;
 mod paged_row;
 mod pages;
 

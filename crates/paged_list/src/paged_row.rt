@@ -1,7 +1,12 @@
 // A row of items in pages, of which each item is found by its place.
 ghost use Rattle.std.specs.Prelude.{◌≡◌, ◌+◌, ◌-◌, ◌<◌, ◌≤◌, ◌++◌, [], ◌∷◌, length};
-ghost use Rattle.std.specs.Prelude.{slice_index_or, slice_set, IsOk, OnOk, OnErr};
+ghost use Rattle.std.specs.Prelude.{slice_index_or, slice_set, IsOk, OnOk, OnErr, IfSome};
+ghost use Rattle.std.specs.Borrow.{sem};
+ghost use Rattle.std.specs.List.{IsItemAtMut};
+ghost use Rattle.std.specs.Slice.{IsItemAt};
+ghost use Rattle.paged_list.specs.Lending.{lends_item, lends_get};
 
+use crate::growing::{begin_page, enlarge_page, next_size};
 use crate::pages::PAGE;
 use std::alloc::{AllocError, Global};
 use std::marker::Model;
@@ -10,8 +15,9 @@ use std::mem;
 // No pages have room for more items.
 const MOST: usize = usize::MAX;
 
-/// Items in a row, each of which is found and replaced by its place. They lie in pages, each of
-/// which is allocated once: where all pages are full one more is begun, and no item moves.
+/// Items in a row, each of which is found, lent and replaced by its place. They lie in pages. The
+/// first begins small, and moves where it gets twice the room. Once it has room for `PAGE` items
+/// pages are begun, each is allocated once, and no item moves any more.
 #[derive(Drop)]
 pub struct PagedRow<T> {
     alloc: Global,
@@ -70,6 +76,40 @@ impl<T> PagedRow<T> {
         &page[place % PAGE]
     }
 
+    /// The item at a place, if there is one.
+    pub fn get(&self, place: usize) -> Option<&T>
+        ensures { IsItemAt self.now.items place result }
+    {
+        if place < self.len() {
+            Some(self.at(place))
+        } else {
+            None
+        }
+    }
+
+    /// Lends the item at a place, to be changed there.
+    pub fn at_mut(&mut self, place: usize) -> &mut T
+        requires { place < length self.old.items }
+        ensures* writes_back { sem 𝓛 (lends_item T.row self.entry place result) }
+        ensures value { result.now ≡ slice_index_or self.old.items place result.now }
+    {
+        let page = &mut self.pages[place / PAGE];
+        &mut page[place % PAGE]
+    }
+
+    /// Lends the item at a place, if there is one, to be changed there.
+    pub fn get_mut(&mut self, place: usize) -> Option<&mut T>
+        ensures* writes_back { sem 𝓛 (lends_get T.row self.entry place result) }
+        ensures value { IfSome result (λ x. x.now ≡ slice_index_or self.old.items place x.now) }
+        ensures item { IsItemAtMut self.old.items place result }
+    {
+        if place < self.len() {
+            Some(self.at_mut(place))
+        } else {
+            None
+        }
+    }
+
     /// Puts an item where another was, and gives that one.
     pub fn replace(&mut self, place: usize, item: T) -> T
         requires { place < length self.old.items }
@@ -77,8 +117,7 @@ impl<T> PagedRow<T> {
         ensures room { self.new.room ≡ self.old.room }
         ensures gives { result ≡ slice_index_or self.old.items place result }
     {
-        let page = &mut self.pages[place / PAGE];
-        mem::replace(&mut page[place % PAGE], item)
+        mem::replace(self.at_mut(place), item)
     }
 
     /// Puts an item where another was.
@@ -93,7 +132,7 @@ impl<T> PagedRow<T> {
     }
 
     /// Makes room for so many more items. It fails only for want of memory, or where they would be
-    /// more than 2^64 - 1 with those that are there; pages that it began until then stay, as room.
+    /// more than 2^64 - 1 with those that are there; what room it made until then stays.
     pub fn reserve(&mut self, count: usize) -> Result<(), AllocError>
     where
         T: Drop,
@@ -105,18 +144,16 @@ impl<T> PagedRow<T> {
         if count <= self.room() {
             return Ok(());
         }
-        self.begin_pages(count)
+        self.make_room(count)
     }
 
-    fn begin_pages(&mut self, count: usize) -> Result<(), AllocError>
-    where
-        T: Drop,
+    fn make_room(&mut self, count: usize) -> Result<(), AllocError>
         ensures items { self.new.items ≡ self.old.items }
         ensures room { OnOk result (count ≤ self.new.room) }
         ensures more { self.old.room ≤ self.new.room }
     {
         while self.room() < count {
-            self.begin_page()?;
+            self.grow()?;
         }
         Ok(())
     }
@@ -127,20 +164,20 @@ impl<T> PagedRow<T> {
         self.fitting - self.count
     }
 
-    fn begin_page(&mut self) -> Result<(), AllocError>
-    where
-        T: Drop,
+    // Makes room for some more items: in the first page, or in one that is begun.
+    fn grow(&mut self) -> Result<(), AllocError>
         ensures items { self.new.items ≡ self.old.items }
-        ensures room { OnOk result (self.new.room ≡ self.old.room + PAGE) }
+        ensures room { OnOk result (self.old.room < self.new.room) }
         ensures as_before { OnErr result (self.new.room ≡ self.old.room) }
     {
         if self.fitting > MOST - PAGE {
             return Err(AllocError);
         }
-        self.pages.reserve(1)?;
-        let page = Vec::with_capacity(self.alloc, PAGE)?;
-        self.pages.push_reserved(page);
-        self.fitting += PAGE;
+        let place = self.fitting / PAGE;
+        let size = next_size(self.fitting);
+        begin_page(self.alloc, &mut self.pages, place)?;
+        enlarge_page(&mut self.pages, place, size)?;
+        self.fitting = place * PAGE + size;
         Ok(())
     }
 

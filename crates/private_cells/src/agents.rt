@@ -11,6 +11,7 @@ use crate::cells::Cell;
 use crate::counts::Counts;
 use crate::spare::Spare;
 use crate::turns::Turns;
+use paged_list::PagedRow;
 use repl_values::{Fault, Value};
 use std::alloc::{AllocError, Global};
 
@@ -22,7 +23,7 @@ use std::alloc::{AllocError, Global};
 #[derive(Drop)]
 pub struct Agents {
     pub(crate) alloc: Global,
-    pub(crate) cells: Vec<Cell>,
+    pub(crate) cells: PagedRow<Cell>,
     // the agents that may begin an action, but for the one that runs one
     pub(crate) turns: Turns,
     // what waits for each agent, by the session that sent it
@@ -54,7 +55,7 @@ impl Agents {
     {
         Agents {
             alloc,
-            cells: Vec::new(alloc),
+            cells: PagedRow::new(alloc),
             turns: Turns::new(alloc),
             counts: Counts::new(alloc),
             spare: Spare::new(alloc),
@@ -74,7 +75,7 @@ impl Agents {
         let number = self.cells.len();
         self.cells.reserve(1)?;
         self.turns.reserve(number + 1)?;
-        self.cells.push_reserved(Cell::new(self.alloc, state));
+        self.cells.put(Cell::new(self.alloc, state));
         Ok(number as u64)
     }
 

@@ -4,13 +4,14 @@ ghost use Rattle.value_data.specs.Inside.View.{view};
 ghost use Rattle.private_cells.specs.Atoms.{no_atoms, atom_value, with_atom, with_atom_value};
 ghost use Rattle.private_cells.specs.Atoms.{is_unchanged, with_try};
 
+use paged_list::PagedRow;
 use repl_values::{Value, same};
 use std::alloc::{AllocError, Global};
 
 /// The atoms of one tenant, numbered from 0 in the order of their making. None is ever removed.
 #[derive(Drop)]
 pub struct Atoms {
-    pub(crate) values: Vec<Value>,
+    pub(crate) values: PagedRow<Value>,
 }
 
 impl Atoms {
@@ -21,7 +22,7 @@ impl Atoms {
         ensures { atoms_view result ≡ no_atoms }
     {
         Atoms {
-            values: Vec::new(alloc),
+            values: PagedRow::new(alloc),
         }
     }
 
@@ -33,7 +34,8 @@ impl Atoms {
         ensures stays { OnErr result (atoms_view self.new ≡ atoms_view self.old) }
     {
         let number = self.values.len() as u64;
-        self.values.push(value)?;
+        self.values.reserve(1)?;
+        self.values.put(value);
         Ok(number)
     }
 

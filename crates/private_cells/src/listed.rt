@@ -11,11 +11,16 @@ ghost use Rattle.private_cells.specs.Inside.Changes.{with_these, with_agent_stat
 
 use crate::action::Sent;
 use crate::cells::Cell;
+use paged_list::PagedRow;
 use repl_values::{Fault, Value};
 use std::collections::LinkedList;
 
 // What is in these nodes waits. Where that gives the agent a turn, its number is answered.
-pub(crate) fn wait_at(cells: &mut Vec<Cell>, number: u64, nodes: LinkedList<Sent>) -> Option<u128>
+pub(crate) fn wait_at(
+    cells: &mut PagedRow<Cell>,
+    number: u64,
+    nodes: LinkedList<Sent>,
+) -> Option<u128>
     requires there { number < length cells.old.items }
     requires fits { length (waiting_at number (cells_view cells.old.items)) + length nodes
         < 2 ^ 63 }
@@ -32,7 +37,7 @@ pub(crate) fn wait_at(cells: &mut Vec<Cell>, number: u64, nodes: LinkedList<Sent
 }
 
 // The agent's turn of this number is taken. The session is answered from which the action came.
-pub(crate) fn begin_at(cells: &mut Vec<Cell>, number: u64, first: u128) -> Option<Option<u64>>
+pub(crate) fn begin_at(cells: &mut PagedRow<Cell>, number: u64, first: u128) -> Option<Option<u64>>
     requires { open_at number (cells_view cells.old.items) ≡ Some (turn_at number first) }
     ensures begun { cells_view cells.new.items
         ≡ changed_at number with_begun (cells_view cells.old.items) }
@@ -49,7 +54,7 @@ pub(crate) fn begin_at(cells: &mut Vec<Cell>, number: u64, first: u128) -> Optio
 }
 
 // The action that runs is over, with this value. Where an action waits, its number is answered.
-pub(crate) fn finish_at(cells: &mut Vec<Cell>, number: u64, value: Value) -> Option<u128>
+pub(crate) fn finish_at(cells: &mut PagedRow<Cell>, number: u64, value: Value) -> Option<u128>
     requires { runs_at number (cells_view cells.old.items) ≡ true }
     ensures over { cells_view cells.new.items
         ≡ changed_at number (with_agent_state (view value)) (cells_view cells.old.items) }
@@ -67,7 +72,7 @@ pub(crate) fn finish_at(cells: &mut Vec<Cell>, number: u64, value: Value) -> Opt
 }
 
 // The action that runs is over, with this fault.
-pub(crate) fn fail_at(cells: &mut Vec<Cell>, number: u64, fault: Fault)
+pub(crate) fn fail_at(cells: &mut PagedRow<Cell>, number: u64, fault: Fault)
     requires { runs_at number (cells_view cells.old.items) ≡ true }
     ensures over { cells_view cells.new.items
         ≡ changed_at number (with_fault (failure_of fault)) (cells_view cells.old.items) }
@@ -83,7 +88,7 @@ pub(crate) fn fail_at(cells: &mut Vec<Cell>, number: u64, fault: Fault)
 
 // Where the agent is failed, it goes on with this state. Where an action waits, its number is
 // answered.
-pub(crate) fn restart_at(cells: &mut Vec<Cell>, number: u64, state: Value) -> Option<u128>
+pub(crate) fn restart_at(cells: &mut PagedRow<Cell>, number: u64, state: Value) -> Option<u128>
     ensures restarted { cells_view cells.new.items
         ≡ changed_at number (restarted (view state)) (cells_view cells.old.items) }
     ensures len { length cells.new.items ≡ length cells.old.items }

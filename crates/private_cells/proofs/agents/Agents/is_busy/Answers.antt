@@ -1,4 +1,4 @@
-use Rattle.std.proofs.Common.{◌≡◌, ◌<◌, map, refl, sym, ap, ◌∙◌, arith}
+use Rattle.std.proofs.Common.{◌≡◌, ◌<◌, refl, sym, ap, ◌∙◌, arith}
 use Rattle.std.proofs.Common.{length, Some, nat_lt, true, false}
 use Rattle.std.specs.List.{list_any}
 use Rattle.std.proofs.lemmas.Bool.{ltb-true, lt-ltb}
@@ -19,12 +19,10 @@ returns-then-count-gt0 c =
     let number = c.args.number in
     let session = c.args.session in
     let cell = c.in-Some.cell.now in
-    let items = c.deref.result.now in
-    let there : number < length items = ltb-true number (length items)
-    (sym c.in-Some.ensures.lookup.0) in
-    let seen : slice_get (cells_view self.cells.items) number ≡ Some (cell_view cell) =
-    ap (λ xs. slice_get (map cell_view xs) number) (sym c.deref.ensures.value)
-    ∙ seen_at cell_view number cell items there c.in-Some.ensures.lookup.1 in
+    let items = self.cells.items in
+    let there : number < length items = ltb-true number (length items) (sym c.in-Some.ensures.0) in
+    let seen : slice_get (cells_view items) number ≡ Some (cell_view cell) =
+    seen_at cell_view number cell items there c.in-Some.ensures.1 in
     let counted : nat_lt 0 c.count.result
     ≡ list_any (λ x. is_of session x.action) (cell_view cell).waiting =
     ap (nat_lt 0) (c.count.ensures
@@ -41,12 +39,10 @@ returns-else-count-gt0 c =
     let number = c.args.number in
     let session = c.args.session in
     let cell = c.in-Some.cell.now in
-    let items = c.deref.result.now in
-    let there : number < length items = ltb-true number (length items)
-    (sym c.in-Some.ensures.lookup.0) in
-    let seen : slice_get (cells_view self.cells.items) number ≡ Some (cell_view cell) =
-    ap (λ xs. slice_get (map cell_view xs) number) (sym c.deref.ensures.value)
-    ∙ seen_at cell_view number cell items there c.in-Some.ensures.lookup.1 in
+    let items = self.cells.items in
+    let there : number < length items = ltb-true number (length items) (sym c.in-Some.ensures.0) in
+    let seen : slice_get (cells_view items) number ≡ Some (cell_view cell) =
+    seen_at cell_view number cell items there c.in-Some.ensures.1 in
     let counted : nat_lt 0 c.count.result
     ≡ list_any (λ x. is_of session x.action) (cell_view cell).waiting =
     ap (nat_lt 0) (c.count.ensures

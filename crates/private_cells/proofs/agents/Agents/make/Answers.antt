@@ -13,9 +13,9 @@ invariant_of-self-2 c =
     let self = c.args.self.now in
     let old = cells_view self.cells.items in
     let d = view c.args.state in
-    let items = c.push_reserved.ensures.items
+    let items = c.put.ensures.items
     ∙ ap (λ xs. xs ++ c.new.result ∷ []) c.reserve.ensures.items in
-    let seen : cells_view c.push_reserved.new.self.items ≡ old ++ at_rest d ∷ [] =
+    let seen : cells_view c.put.new.self.items ≡ old ++ at_rest d ∷ [] =
     ap cells_view items ∙ map_push cell_view c.new.result self.cells.items
     ∙ ap (λ a. old ++ a ∷ []) c.new.ensures in
     record {

@@ -1,5 +1,5 @@
 use Rattle.std.proofs.Common.{◌≡◌, ◌≤◌, ◌-◌}
-use Rattle.paged_list.proofs.paged_row.PagedRow.begin_pages.Given as goal
+use Rattle.paged_list.proofs.paged_row.PagedRow.make_room.Given as goal
 
 abbrev pub decreases-loop-self : goal.decreases-loop-self
 decreases-loop-self g l = l.count - l.self.room
