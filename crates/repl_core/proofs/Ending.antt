@@ -2,7 +2,7 @@
 use Rattle.std.proofs.Common.{◌≡◌, Some, sym, ap, ◌∙◌}
 use Rattle.repl_asks.specs.Inside.Jobs.{finished_view}
 use Rattle.repl_asks.specs.Job.{EndData}
-use Rattle.repl_walker.specs.declared.ending.Ending.{Ending}
+use Rattle.repl_asks.specs.declared.job.Finished.{Finished}
 use Rattle.server_rules.specs.Request.{Run}
 use Rattle.server_rules.specs.Tenant.{TenantState}
 use Rattle.server_rules.specs.declared.actor.Actor.{Actor}
@@ -10,8 +10,8 @@ use Rattle.tenant_world.specs.Running.{IsEndOfForm, running_in}
 use Rattle.repl_core.specs.Inside.Walked.{walk_ended}
 use Rattle.repl_core.proofs.WalkSteps.{some-same}
 
-pub end-of-form : (a : Actor) (q : TenantState) (run : Run) (e : Ending) (end : EndData)
-    → running_in a q ≡ Some run → end ≡ finished_view e.finished
+pub end-of-form : (a : Actor) (q : TenantState) (run : Run) (e : Finished) (end : EndData)
+    → running_in a q ≡ Some run → end ≡ finished_view e
     → IsEndOfForm (running_in a q) end (walk_ended run e)
 end-of-form a q run e end some is = record {
   end = sym is;

@@ -3,7 +3,7 @@ use Rattle.std.proofs.Common.{◌≡◌, ◌≢◌, ℕ, List, [], ◌∷◌, So
 use Rattle.std.proofs.Common.{sym, ap, subst, ◌∙◌, IfErr, OnOk, OnErr}
 use Rattle.std.specs.Result.{IsErrAnd}
 use Rattle.repl_replies.specs.Replies.{ReplyData}
-use Rattle.repl_walker.specs.declared.waiting.Progress.{Progress}
+use Rattle.repl_walker.specs.declared.steps.Reached as steps
 use Rattle.server_rules.specs.Ground.{Ground}
 use Rattle.server_rules.specs.Request.{Run}
 use Rattle.server_rules.specs.Tenant.{TenantState, seat_of}
@@ -165,7 +165,7 @@ does-drained g l r old tenant answer s does = record {
 
 -- What was put in
 
-pub put-so : {X E : Type 0} (a : Actor) (mid new : Walks) (progress p : Progress) (r : Result X E)
+pub put-so : {X E : Type 0} (a : Actor) (mid new : Walks) (progress p : steps.Reached) (r : Result X E)
     → OnOk r (walk_at new a ≡ Some progress)
     → OnErr r ((b : Actor) → walk_at new b ≡ walk_at mid b)
     → walk_at mid a ≡ None → walk_at new a ≡ Some p → progress ≡ p
@@ -186,7 +186,7 @@ pub does-resumed : (g : Ground) (l : LoneTenant) (r : TableRefs) (a : Actor) (ol
     → world.AcceptsDeedBy g a l.state (comes_to g l (deeds.asks_for a ask)) new.tenant (ask_answered answer)
     → let d = comes_to g l (deeds.asks_for a ask) in
     TableServes new.table d.store (refs_after d.store r)
-    → ((p : Progress) → walk_at new.walks a ≡ Some p
+    → ((p : steps.Reached) → walk_at new.walks a ≡ Some p
     → IsWalkOf (run_with (exchange_from ask answer) run) p)
     → ((b : Actor) → seat_of b ≢ seat_of a → walk_at new.walks b ≡ walk_at old.walks b)
     → AcceptsHonestDeed g l r (deeds.asks_for a ask) new

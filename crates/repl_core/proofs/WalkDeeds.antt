@@ -2,10 +2,11 @@
 use Rattle.std.proofs.Common.{◌≡◌, Option, Some, None, option_and_then, refl, sym, ap, ◌∙◌}
 use Rattle.repl_asks.specs.Inside.View.{ask_view}
 use Rattle.repl_asks.specs.Leading.{tree_after}
-use Rattle.repl_walker.specs.Waits.{progress_tree}
-use Rattle.repl_walker.specs.declared.waiting.Walk.{Walk}
-use Rattle.repl_walker.specs.declared.waiting.Progress.{Progress}
-use Rattle.repl_walker.specs.declared.ending.Ending.{Ending}
+use Rattle.repl_asks.specs.declared.ask.Ask.{Ask}
+use Rattle.repl_walker.specs.Steps.{reached_tree}
+use Rattle.repl_walker.specs.declared.steps.WaitingEvaluation.{WaitingEvaluation}
+use Rattle.repl_walker.specs.declared.steps.Reached.{Reached}
+use Rattle.repl_asks.specs.declared.job.Finished.{Finished}
 use Rattle.server_rules.specs.Ground.{Ground}
 use Rattle.ref_table.specs.Numbered.{part_under}
 use Rattle.server_rules.specs.Request.{WorkInHand, Run}
@@ -55,22 +56,22 @@ honest_deed-runs g a q run some = by (part_under (seat_of a) q.actors) some
     by (Some actor) e = in_hand actor.hand e
 
 -- the evaluation came so far
-walked-so : (g : Ground) (a : Actor) (q : TenantState) (run : Run) (p : Progress) → Evaluates g
+walked-so : (g : Ground) (a : Actor) (q : TenantState) (run : Run) (p : Reached) → Evaluates g
     → running_in a q ≡ Some run → IsWalkOf run p
-    → honest_deed g a (Some (Some q)) ≡ honest_at a run (progress_tree p)
+    → honest_deed g a (Some (Some q)) ≡ honest_at a run (reached_tree p)
 walked-so g a q run p ground some walk =
     honest_deed-runs g a q run some
     ∙ ap (λ t. honest_at a run (tree_after t run.trace)) (ground.evaluation run.job)
     ∙ ap (honest_at a run) (sym walk)
 
-pub honest_deed-asks : (g : Ground) (a : Actor) (q : TenantState) (run : Run) (w : Walk) → Evaluates g
-    → running_in a q ≡ Some run → IsWalkOf run (Progress.Asks w)
-    → deeds.asks_for a (ask_view w.ask) ≡ honest_deed g a (Some (Some q))
-honest_deed-asks g a q run w ground some walk =
-    sym (walked-so g a q run (Progress.Asks w) ground some walk)
+pub honest_deed-asks : (g : Ground) (a : Actor) (q : TenantState) (run : Run) (w : WaitingEvaluation) (k : Ask) → Evaluates g
+    → running_in a q ≡ Some run → IsWalkOf run (Reached.Asks w k)
+    → deeds.asks_for a (ask_view k) ≡ honest_deed g a (Some (Some q))
+honest_deed-asks g a q run w k ground some walk =
+    sym (walked-so g a q run (Reached.Asks w k) ground some walk)
 
-pub honest_deed-ends : (g : Ground) (a : Actor) (q : TenantState) (run : Run) (e : Ending) → Evaluates g
-    → running_in a q ≡ Some run → IsWalkOf run (Progress.Ends e)
+pub honest_deed-ends : (g : Ground) (a : Actor) (q : TenantState) (run : Run) (e : Finished) → Evaluates g
+    → running_in a q ≡ Some run → IsWalkOf run (Reached.Ends e)
     → deeds.ends a (walk_ended run e) ≡ honest_deed g a (Some (Some q))
 honest_deed-ends g a q run e ground some walk =
-    sym (walked-so g a q run (Progress.Ends e) ground some walk)
+    sym (walked-so g a q run (Reached.Ends e) ground some walk)

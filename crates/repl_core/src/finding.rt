@@ -2,7 +2,7 @@
 ghost use Rattle.std.specs.Prelude.{◌≡◌, ◌≢◌, Some, None, [], ◌∷◌, IfOk, OnOk, OnErr};
 ghost use Rattle.repl_asks.specs.Inside.View.{exchange_view};
 ghost use Rattle.repl_asks.specs.Leading.{tree_after};
-ghost use Rattle.repl_walker.specs.Waits.{progress_tree};
+ghost use Rattle.repl_walker.specs.Steps.{reached_tree};
 ghost use Rattle.server_rules.specs.Tenant.{TenantState};
 ghost use Rattle.tenant_parts.specs.View.{run_view};
 ghost use Rattle.tenant_world.specs.Running.{running_in};
@@ -11,7 +11,7 @@ ghost use Rattle.repl_core.specs.Inside.WalkAt.{walk_at};
 
 use crate::walks::Walks;
 use repl_asks::Exchange;
-use repl_walker::{Progress, start};
+use repl_walker::{Reached, begin};
 use server_rules::Actor;
 use std::alloc::{AllocError, Global};
 use tenant_parts::Run;
@@ -38,26 +38,26 @@ impl Walks {
 
 // The evaluation of a form that runs, as far as its recorded answers take it. It takes as long as
 // the form took up to there. It fails only for want of memory.
-fn evaluation_of(alloc: Global, run: &Run) -> Result<Progress, AllocError>
+fn evaluation_of(alloc: Global, run: &Run) -> Result<Reached, AllocError>
     ensures { IfOk result (IsWalkOf (run_view run.now)) }
 {
     if run.trace.is_empty() {
-        return start(alloc, &run.job);
+        return begin(alloc, &run.job);
     }
-    let mut progress = start(alloc, &run.job)?;
+    let mut reached = begin(alloc, &run.job)?;
     for exchange in &run.trace {
-        progress = answered(alloc, progress, exchange)?;
+        reached = answered(alloc, reached, exchange)?;
     }
-    Ok(progress)
+    Ok(reached)
 }
 
 // One recorded answer further. Behind the end there is nothing.
-fn answered(alloc: Global, progress: Progress, exchange: &Exchange) -> Result<Progress, AllocError>
-    ensures { IfOk result (λ later. progress_tree later
-        ≡ tree_after (progress_tree progress) (exchange_view exchange.now ∷ [])) }
+fn answered(alloc: Global, reached: Reached, exchange: &Exchange) -> Result<Reached, AllocError>
+    ensures { IfOk result (λ later. reached_tree later
+        ≡ tree_after (reached_tree reached) (exchange_view exchange.now ∷ [])) }
 {
-    match progress {
-        Progress::Asks(walk) => walk.resume(alloc, exchange.answer.copy()?),
-        Progress::Ends(ending) => Ok(Progress::Ends(ending)),
+    match reached {
+        Reached::Asks(walk, _asked) => walk.go_on(alloc, exchange.answer.copy()?),
+        Reached::Ends(finished) => Ok(Reached::Ends(finished)),
     }
 }

@@ -18,14 +18,15 @@ ghost use Rattle.tenant_world.specs.Standing.{CountsStep};
 ghost use Rattle.repl_core.specs.Inside.Seen.{keeps_walk};
 ghost use Rattle.repl_core.specs.Inside.Walked.{IsWalkOf, walk_ended};
 ghost use Rattle.repl_core.specs.Inside.WalkAt.{walk_at, IsAsking, IsEnded};
-ghost use Rattle.repl_walker.specs.declared.waiting.Walk.{Walk};
-ghost use Rattle.repl_walker.specs.declared.ending.Ending as endings;
+ghost use Rattle.repl_walker.specs.declared.steps.WaitingEvaluation.{WaitingEvaluation};
+ghost use Rattle.repl_asks.specs.declared.ask.Ask.{Ask};
+ghost use Rattle.repl_asks.specs.declared.job.Finished.{Finished};
 
 use crate::walks::Walks;
 use ref_history::RingHistory;
 use ref_table::RefTable;
 use repl_asks::Answer;
-use repl_walker::Progress;
+use repl_walker::Reached;
 use server_rules::{Actor, Refusal};
 use std::alloc::AllocError;
 use tenant_parts::Aside;
@@ -63,8 +64,8 @@ impl Walks {
         };
         self.find(actor, run)?;
         match self.get(actor) {
-            Some(Progress::Asks(_walk)) => self.ask(tenant, refs, actor),
-            Some(Progress::Ends(_ending)) => self.end(tenant, refs, actor),
+            Some(Reached::Asks(_walk, _asked)) => self.ask(tenant, refs, actor),
+            Some(Reached::Ends(_finished)) => self.end(tenant, refs, actor),
             None => unreachable!(),
         }
     }
@@ -102,30 +103,32 @@ impl Walks {
     ) -> Result<(), Refusal>
         requires asks { IsAsking (walk_at self.old actor) }
         requires counter { counter_of refs.old < u128.MAX }
-        ensures done { (g : Ground) (l : LoneTenant) (r : TableRefs) (run : rules.Run) (w : Walk)
-            → IsRight g
+        ensures done { (g : Ground) (l : LoneTenant) (r : TableRefs) (run : rules.Run)
+            (w : WaitingEvaluation) (k : Ask) → IsRight g
             → PartsStand g (parts tenant.old refs.old self.old) l r
             → running_in actor l.state ≡ Some run
-            → walk_at self.old actor ≡ Some (Progress.Asks w)
-            → OnOk result (AcceptsHonestDeed g l r (deeds.asks_for actor (ask_view w.ask))
+            → walk_at self.old actor ≡ Some (Reached.Asks w k)
+            → OnOk result (AcceptsHonestDeed g l r (deeds.asks_for actor (ask_view k))
             (parts tenant.new refs.new self.new)) }
-        ensures refused { (g : Ground) (l : LoneTenant) (r : TableRefs) (w : Walk) → IsRight g
+        ensures refused { (g : Ground) (l : LoneTenant) (r : TableRefs) (w : WaitingEvaluation)
+            (k : Ask) → IsRight g
             → PartsStand g (parts tenant.old refs.old self.old) l r
-            → walk_at self.old actor ≡ Some (Progress.Asks w)
-            → IfErr result (RefusesHonestDeed g l r (deeds.asks_for actor (ask_view w.ask))
+            → walk_at self.old actor ≡ Some (Reached.Asks w k)
+            → IfErr result (RefusesHonestDeed g l r (deeds.asks_for actor (ask_view k))
             (parts tenant.new refs.new self.new)) }
-        ensures no_memory { (g : Ground) (l : LoneTenant) (r : TableRefs) (w : Walk)
+        ensures no_memory { (g : Ground) (l : LoneTenant) (r : TableRefs) (w : WaitingEvaluation)
+            (k : Ask)
             → PartsStand g (parts tenant.old refs.old self.old) l r
-            → walk_at self.old actor ≡ Some (Progress.Asks w)
+            → walk_at self.old actor ≡ Some (Reached.Asks w k)
             → result ≡ Err Refusal.NoMemory
-            → is_accepted (comes_to g l (deeds.asks_for actor (ask_view w.ask))).outcome ≡ true }
+            → is_accepted (comes_to g l (deeds.asks_for actor (ask_view k))).outcome ≡ true }
         ensures counted { CountsStep tenant.old tenant.new result }
         ensures commits { CountsOne refs.old refs.new result }
     {
-        let Some(Progress::Asks(walk)) = self.get(actor) else {
+        let Some(Reached::Asks(_walk, asked)) = self.get(actor) else {
             unreachable!();
         };
-        match tenant.answer(refs, actor, walk.ask())? {
+        match tenant.answer(refs, actor, asked)? {
             AskAnswer::Answer(answer) => drop(self.resume(actor, answer)),
             AskAnswer::Interrupted => self.remove(actor),
         }
@@ -141,31 +144,29 @@ impl Walks {
     ) -> Result<(), Refusal>
         requires { IsEnded (walk_at self.old actor) }
         ensures done { (g : Ground) (l : LoneTenant) (r : TableRefs) (run : rules.Run)
-            (e : endings.Ending)
-            → IsRight g → PartsStand g (parts tenant.old refs.now self.old) l r
+            (e : Finished) → IsRight g → PartsStand g (parts tenant.old refs.now self.old) l r
             → running_in actor l.state ≡ Some run
-            → walk_at self.old actor ≡ Some (Progress.Ends e) → OnOk result
+            → walk_at self.old actor ≡ Some (Reached.Ends e) → OnOk result
             (AcceptsHonestDeed g l r (deeds.ends actor (walk_ended run e))
             (parts tenant.new refs.now self.new)) }
         ensures refused { (g : Ground) (l : LoneTenant) (r : TableRefs) (run : rules.Run)
-            (e : endings.Ending)
-            → IsRight g → PartsStand g (parts tenant.old refs.now self.old) l r
+            (e : Finished) → IsRight g → PartsStand g (parts tenant.old refs.now self.old) l r
             → running_in actor l.state ≡ Some run
-            → walk_at self.old actor ≡ Some (Progress.Ends e) → IfErr result
+            → walk_at self.old actor ≡ Some (Reached.Ends e) → IfErr result
             (RefusesHonestDeed g l r (deeds.ends actor (walk_ended run e))
             (parts tenant.new refs.now self.new)) }
         ensures no_memory { (g : Ground) (l : LoneTenant) (r : TableRefs) (run : rules.Run)
-            (e : endings.Ending) → IsRight g → PartsStand g (parts tenant.old refs.now self.old) l r
+            (e : Finished) → IsRight g → PartsStand g (parts tenant.old refs.now self.old) l r
             → running_in actor l.state ≡ Some run
-            → walk_at self.old actor ≡ Some (Progress.Ends e)
+            → walk_at self.old actor ≡ Some (Reached.Ends e)
             → result ≡ Err Refusal.NoMemory
             → is_accepted (comes_to g l (deeds.ends actor (walk_ended run e))).outcome ≡ true }
         ensures counted { CountsStep tenant.old tenant.new result }
     {
-        let Some(Progress::Ends(ending)) = self.get(actor) else {
+        let Some(Reached::Ends(finished)) = self.get(actor) else {
             unreachable!();
         };
-        tenant.finish(actor, ending.end(), &mut Aside::nothing())?;
+        tenant.finish(actor, finished, &mut Aside::nothing())?;
         self.remove(actor);
         Ok(())
     }
@@ -175,17 +176,17 @@ impl Walks {
     fn resume(&mut self, actor: Actor, answer: Answer) -> Result<(), AllocError>
         requires { IsAsking (walk_at self.old actor) }
         ensures kept { OnOk result (walk_at self.new actor ≢ None) }
-        ensures resumed { (run : rules.Run) (w : Walk) (p : Progress)
-            → walk_at self.old actor ≡ Some (Progress.Asks w)
-            → IsWalkOf run (Progress.Asks w) → walk_at self.new actor ≡ Some p
-            → IsWalkOf (run_with (exchange_from (ask_view w.ask) (answer_view answer)) run) p }
+        ensures resumed { (run : rules.Run) (w : WaitingEvaluation) (k : Ask) (p : Reached)
+            → walk_at self.old actor ≡ Some (Reached.Asks w k)
+            → IsWalkOf run (Reached.Asks w k) → walk_at self.new actor ≡ Some p
+            → IsWalkOf (run_with (exchange_from (ask_view k) (answer_view answer)) run) p }
         ensures others { (b : Actor) → seat_of b ≢ seat_of actor
             → walk_at self.new b ≡ walk_at self.old b }
     {
-        let Some(Progress::Asks(walk)) = self.take(actor) else {
+        let Some(Reached::Asks(walk, _asked)) = self.take(actor) else {
             unreachable!();
         };
-        match walk.resume(self.alloc, answer) {
+        match walk.go_on(self.alloc, answer) {
             Ok(later) => self.put(actor, later),
             Err(error) => Err(error),
         }

@@ -3,7 +3,7 @@ ghost use Rattle.std.specs.Prelude.{◌≡◌, ◌≢◌, None, Some, OnOk, OnEr
 ghost use Rattle.server_rules.specs.Tenant.{seat_of};
 ghost use Rattle.repl_core.specs.Inside.WalkAt.{walk_at};
 
-use repl_walker::Progress;
+use repl_walker::Reached;
 use server_rules::Actor;
 use std::alloc::{AllocError, Global};
 use std::collections::BTreeMap;
@@ -16,7 +16,7 @@ pub struct Walks {
     pub(crate) alloc: Global,
     // An actor keeps its place while its evaluation is taken out, so that a step takes no memory.
     // The place stands in a box: an evaluation is large, and a node of the map has many places.
-    pub(crate) live: BTreeMap<Actor, Box<Option<Progress>>>,
+    pub(crate) live: BTreeMap<Actor, Box<Option<Reached>>>,
 }
 
 impl Drop for Walks {
@@ -40,14 +40,14 @@ impl Walks {
         }
     }
 
-    pub(crate) fn get(&self, actor: Actor) -> Option<&Progress>
+    pub(crate) fn get(&self, actor: Actor) -> Option<&Reached>
         ensures { option_map (λ p. p.now) result ≡ walk_at self.now actor }
     {
         (**self.live.get(&actor)?).as_ref()
     }
 
     /// Takes an evaluation out. The place of its actor stays.
-    pub(crate) fn take(&mut self, actor: Actor) -> Option<Progress>
+    pub(crate) fn take(&mut self, actor: Actor) -> Option<Reached>
         ensures taken { result ≡ walk_at self.old actor }
         ensures gone { walk_at self.new actor ≡ None }
         ensures others { (b : Actor) → seat_of b ≢ seat_of actor
@@ -67,27 +67,27 @@ impl Walks {
 
     /// Puts an evaluation in, in place of the one of its actor. It fails only for want of memory,
     /// and then changes nothing.
-    pub(crate) fn put(&mut self, actor: Actor, progress: Progress) -> Result<(), AllocError>
-        ensures put { OnOk result (walk_at self.new actor ≡ Some progress) }
+    pub(crate) fn put(&mut self, actor: Actor, reached: Reached) -> Result<(), AllocError>
+        ensures put { OnOk result (walk_at self.new actor ≡ Some reached) }
         ensures others { OnOk result ((b : Actor) → seat_of b ≢ seat_of actor
             → walk_at self.new b ≡ walk_at self.old b) }
         ensures stays { OnErr result ((b : Actor) → walk_at self.new b ≡ walk_at self.old b) }
     {
         if let Some(place) = self.live.get_mut(&actor) {
-            **place = Some(progress);
+            **place = Some(reached);
             return Ok(());
         }
-        self.add(actor, progress)
+        self.add(actor, reached)
     }
 
     // The same, with a new place.
-    fn add(&mut self, actor: Actor, progress: Progress) -> Result<(), AllocError>
-        ensures put { OnOk result (walk_at self.new actor ≡ Some progress) }
+    fn add(&mut self, actor: Actor, reached: Reached) -> Result<(), AllocError>
+        ensures put { OnOk result (walk_at self.new actor ≡ Some reached) }
         ensures others { OnOk result ((b : Actor) → seat_of b ≢ seat_of actor
             → walk_at self.new b ≡ walk_at self.old b) }
         ensures stays { OnErr result ((b : Actor) → walk_at self.new b ≡ walk_at self.old b) }
     {
-        let place = Box::new(self.alloc, Some(progress))?;
+        let place = Box::new(self.alloc, Some(reached))?;
         drop(self.live.insert(actor, place)?);
         Ok(())
     }

@@ -1,6 +1,6 @@
 use Rattle.std.proofs.Common.{◌∙◌, sym, ap, Err}
 use Rattle.repl_asks.specs.Inside.Jobs.{finished_view}
-use Rattle.repl_walker.specs.declared.waiting.Progress.{Progress}
+use Rattle.repl_walker.specs.declared.steps.Reached.{Reached}
 use Rattle.server_rules.specs.Plan as deeds
 use Rattle.tenant_asks.proofs.Remembering.{wanted-memory}
 use Rattle.repl_core.specs.Inside.Standing.{parts}
@@ -15,12 +15,12 @@ pub returns-in_err-finish-clause-refused : goal.returns-in_err-finish-clause-ref
 returns-in_err-finish-clause-refused c = λ g l r run e right s runs at.
     let a = c.args.actor in
     let old = parts c.args.tenant.now c.args.refs.now c.args.self.now in
-    let d = c.in-Some-Ends.ending in
-    let kept = at-so (λ p. p.now) c.get.result _ (Progress.Ends d) _ c.get.ensures
+    let d = c.in-Some-Ends.finished in
+    let kept = at-so (λ p. p.now) c.get.result _ (Reached.Ends d) _ c.get.ensures
     c.in-Some-Ends.is c.in-Some-Ends.field-0-is in
     let same = ends-same d e (some-same _ _ (sym kept ∙ at)) in
     let own = end-of-form a l.state run e _ runs
-    (ap finished_view c.end.ensures ∙ ap (λ x. finished_view x.finished) same) in
+    (ap finished_view same) in
     refused-parts g l r (deeds.ends a (walk_ended run e)) old c.finish.new.self c.args.refs.now
     c.in_err-finish.field-0.0 c.from_residual.result s c.from_residual.ensures.1
     (c.in_err-finish.ensures.refused g l.state l.store (walk_ended run e) right s.tenant own) s.serves
@@ -29,12 +29,12 @@ pub returns-clause-done : goal.returns-clause-done
 returns-clause-done c = λ g l r run e right s runs at.
     let a = c.args.actor in
     let old = parts c.args.tenant.now c.args.refs.now c.args.self.now in
-    let d = c.in-Some-Ends.ending in
-    let kept = at-so (λ p. p.now) c.get.result _ (Progress.Ends d) _ c.get.ensures
+    let d = c.in-Some-Ends.finished in
+    let kept = at-so (λ p. p.now) c.get.result _ (Reached.Ends d) _ c.get.ensures
     c.in-Some-Ends.is c.in-Some-Ends.field-0-is in
     let same = ends-same d e (some-same _ _ (sym kept ∙ at)) in
     let own = end-of-form a l.state run e _ runs
-    (ap finished_view c.end.ensures ∙ ap (λ x. finished_view x.finished) same) in
+    (ap finished_view same) in
     does-removed g l r (deeds.ends a (walk_ended run e)) a old
     (parts c.finish.new.self c.args.refs.now c.remove.new.self) _ s
     (c.in_ok-finish.ensures.done g l.state l.store (walk_ended run e) right s.tenant own)
@@ -44,12 +44,12 @@ returns-clause-done c = λ g l r run e right s runs at.
 
 pub returns-in_err-finish-clause-no_memory : goal.returns-in_err-finish-clause-no_memory
 returns-in_err-finish-clause-no_memory c = λ g l r run e right s runs at none.
-    let d = c.in-Some-Ends.ending in
-    let kept = at-so (λ p. p.now) c.get.result _ (Progress.Ends d) _ c.get.ensures
+    let d = c.in-Some-Ends.finished in
+    let kept = at-so (λ p. p.now) c.get.result _ (Reached.Ends d) _ c.get.ensures
     c.in-Some-Ends.is c.in-Some-Ends.field-0-is in
     let same = ends-same d e (some-same _ _ (sym kept ∙ at)) in
     let own = end-of-form c.args.actor l.state run e _ runs
-    (ap finished_view c.end.ensures ∙ ap (λ x. finished_view x.finished) same) in
+    (ap finished_view same) in
     let why = wanted-memory c.in_err-finish.field-0.0 c.from_residual.result
     c.from_residual.ensures.1 none in
     c.in_err-finish.ensures.no_memory g l.state l.store (walk_ended run e) right s.tenant own

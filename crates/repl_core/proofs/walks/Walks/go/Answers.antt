@@ -1,6 +1,6 @@
 use Rattle.std.proofs.Common.{◌∙◌, sym, ap, Some, option_map}
 use Rattle.repl_asks.specs.Inside.View.{ask_view}
-use Rattle.repl_walker.specs.declared.waiting.Progress.{Progress}
+use Rattle.repl_walker.specs.declared.steps.Reached.{Reached}
 use Rattle.server_rules.specs.Plan as deeds
 use Rattle.server_rules.specs.Honest.{honest_deed}
 use Rattle.tenant_parts.specs.View.{run_view}
@@ -45,64 +45,66 @@ pub returns-in-Some-Asks-clause-done : goal.returns-in-Some-Asks-clause-done
 returns-in-Some-Asks-clause-done c = λ g l r right s.
     let a = c.args.actor in
     let w = c.in-Some-Asks._walk in
+    let k = c.in-Some-Asks._asked in
     let run = run_view c.in-Some.run'.now in
     let runs = sym (c.running.ensures g l.state l.store s.tenant)
     ∙ ap (option_map (λ it. run_view it.now)) c.in-Some.is in
     let found = stands-found g l r c.args.tenant.now c.args.refs.now c.args.self.now
     c.find.new.self s (c.find.ensures.walked l.state runs) in
-    let at = at-so (λ p. p.now) c.get.result _ (Progress.Asks w) _ c.get.ensures
+    let at = at-so (λ p. p.now) c.get.result _ (Reached.Asks w k) _ c.get.ensures
     c.in-Some-Asks.is c.in-Some-Asks.field-0-is in
-    does-as g l r (deeds.asks_for a (ask_view w.ask)) (honest_deed g a (Some (Some l.state)))
+    does-as g l r (deeds.asks_for a (ask_view k)) (honest_deed g a (Some (Some l.state)))
     (parts c.ask.new.tenant c.ask.new.refs c.ask.new.self) c.ask.result
-    (honest_deed-asks g a l.state run w s.ground runs (found.walked a run (Progress.Asks w) runs at))
-    (c.ask.ensures.done g l r run w right found runs at)
+    (honest_deed-asks g a l.state run w k s.ground runs (found.walked a run (Reached.Asks w k) runs at))
+    (c.ask.ensures.done g l r run w k right found runs at)
 
 pub returns-in-Some-Asks-clause-refused : goal.returns-in-Some-Asks-clause-refused
 returns-in-Some-Asks-clause-refused c = λ g l r right s.
     let a = c.args.actor in
     let w = c.in-Some-Asks._walk in
+    let k = c.in-Some-Asks._asked in
     let run = run_view c.in-Some.run'.now in
     let runs = sym (c.running.ensures g l.state l.store s.tenant)
     ∙ ap (option_map (λ it. run_view it.now)) c.in-Some.is in
     let found = stands-found g l r c.args.tenant.now c.args.refs.now c.args.self.now
     c.find.new.self s (c.find.ensures.walked l.state runs) in
-    let at = at-so (λ p. p.now) c.get.result _ (Progress.Asks w) _ c.get.ensures
+    let at = at-so (λ p. p.now) c.get.result _ (Reached.Asks w k) _ c.get.ensures
     c.in-Some-Asks.is c.in-Some-Asks.field-0-is in
-    refuses-as g l r (deeds.asks_for a (ask_view w.ask)) (honest_deed g a (Some (Some l.state)))
+    refuses-as g l r (deeds.asks_for a (ask_view k)) (honest_deed g a (Some (Some l.state)))
     (parts c.ask.new.tenant c.ask.new.refs c.ask.new.self) c.ask.result
-    (honest_deed-asks g a l.state run w s.ground runs (found.walked a run (Progress.Asks w) runs at))
-    (c.ask.ensures.refused g l r w right found at)
+    (honest_deed-asks g a l.state run w k s.ground runs (found.walked a run (Reached.Asks w k) runs at))
+    (c.ask.ensures.refused g l r w k right found at)
 
 pub returns-in-Some-Ends-clause-done : goal.returns-in-Some-Ends-clause-done
 returns-in-Some-Ends-clause-done c = λ g l r right s.
     let a = c.args.actor in
-    let e = c.in-Some-Ends._ending in
+    let e = c.in-Some-Ends._finished in
     let run = run_view c.in-Some.run'.now in
     let runs = sym (c.running.ensures g l.state l.store s.tenant)
     ∙ ap (option_map (λ it. run_view it.now)) c.in-Some.is in
     let found = stands-found g l r c.args.tenant.now c.args.refs.now c.args.self.now
     c.find.new.self s (c.find.ensures.walked l.state runs) in
-    let at = at-so (λ p. p.now) c.get.result _ (Progress.Ends e) _ c.get.ensures
+    let at = at-so (λ p. p.now) c.get.result _ (Reached.Ends e) _ c.get.ensures
     c.in-Some-Ends.is c.in-Some-Ends.field-0-is in
     does-as g l r (deeds.ends a (walk_ended run e)) (honest_deed g a (Some (Some l.state)))
     (parts c.end.new.tenant c.args.refs.now c.end.new.self) c.end.result
-    (honest_deed-ends g a l.state run e s.ground runs (found.walked a run (Progress.Ends e) runs at))
+    (honest_deed-ends g a l.state run e s.ground runs (found.walked a run (Reached.Ends e) runs at))
     (c.end.ensures.done g l r run e right found runs at)
 
 pub returns-in-Some-Ends-clause-refused : goal.returns-in-Some-Ends-clause-refused
 returns-in-Some-Ends-clause-refused c = λ g l r right s.
     let a = c.args.actor in
-    let e = c.in-Some-Ends._ending in
+    let e = c.in-Some-Ends._finished in
     let run = run_view c.in-Some.run'.now in
     let runs = sym (c.running.ensures g l.state l.store s.tenant)
     ∙ ap (option_map (λ it. run_view it.now)) c.in-Some.is in
     let found = stands-found g l r c.args.tenant.now c.args.refs.now c.args.self.now
     c.find.new.self s (c.find.ensures.walked l.state runs) in
-    let at = at-so (λ p. p.now) c.get.result _ (Progress.Ends e) _ c.get.ensures
+    let at = at-so (λ p. p.now) c.get.result _ (Reached.Ends e) _ c.get.ensures
     c.in-Some-Ends.is c.in-Some-Ends.field-0-is in
     refuses-as g l r (deeds.ends a (walk_ended run e)) (honest_deed g a (Some (Some l.state)))
     (parts c.end.new.tenant c.args.refs.now c.end.new.self) c.end.result
-    (honest_deed-ends g a l.state run e s.ground runs (found.walked a run (Progress.Ends e) runs at))
+    (honest_deed-ends g a l.state run e s.ground runs (found.walked a run (Reached.Ends e) runs at))
     (c.end.ensures.refused g l r run e right found runs at)
 
 pub returns-then-is_worn-clause-refused : goal.returns-then-is_worn-clause-refused
@@ -129,29 +131,30 @@ pub returns-in-Some-Asks-clause-no_memory : goal.returns-in-Some-Asks-clause-no_
 returns-in-Some-Asks-clause-no_memory c = λ g l r right s none seen.
     let a = c.args.actor in
     let w = c.in-Some-Asks._walk in
+    let k = c.in-Some-Asks._asked in
     let run = run_view c.in-Some.run'.now in
     let runs = sym (c.running.ensures g l.state l.store s.tenant)
     ∙ ap (option_map (λ it. run_view it.now)) c.in-Some.is in
     let found = stands-found g l r c.args.tenant.now c.args.refs.now c.args.self.now
     c.find.new.self s (c.find.ensures.walked l.state runs) in
-    let at = at-so (λ p. p.now) c.get.result _ (Progress.Asks w) _ c.get.ensures
+    let at = at-so (λ p. p.now) c.get.result _ (Reached.Asks w k) _ c.get.ensures
     c.in-Some-Asks.is c.in-Some-Asks.field-0-is in
-    let same = honest_deed-asks g a l.state run w s.ground runs
-    (found.walked a run (Progress.Asks w) runs at) in
+    let same = honest_deed-asks g a l.state run w k s.ground runs
+    (found.walked a run (Reached.Asks w k) runs at) in
     sym (ap (λ d. is_accepted (comes_to g l d).outcome) same)
-    ∙ c.ask.ensures.no_memory g l r w found at none
+    ∙ c.ask.ensures.no_memory g l r w k found at none
 
 pub returns-in-Some-Ends-clause-no_memory : goal.returns-in-Some-Ends-clause-no_memory
 returns-in-Some-Ends-clause-no_memory c = λ g l r right s none seen.
     let a = c.args.actor in
-    let e = c.in-Some-Ends._ending in
+    let e = c.in-Some-Ends._finished in
     let run = run_view c.in-Some.run'.now in
     let runs = sym (c.running.ensures g l.state l.store s.tenant)
     ∙ ap (option_map (λ it. run_view it.now)) c.in-Some.is in
     let found = stands-found g l r c.args.tenant.now c.args.refs.now c.args.self.now
     c.find.new.self s (c.find.ensures.walked l.state runs) in
-    let at = at-so (λ p. p.now) c.get.result _ (Progress.Ends e) _ c.get.ensures
+    let at = at-so (λ p. p.now) c.get.result _ (Reached.Ends e) _ c.get.ensures
     c.in-Some-Ends.is c.in-Some-Ends.field-0-is in
     sym (ap (λ d. is_accepted (comes_to g l d).outcome) (honest_deed-ends g a l.state run e
-    s.ground runs (found.walked a run (Progress.Ends e) runs at)))
+    s.ground runs (found.walked a run (Reached.Ends e) runs at)))
     ∙ c.end.ensures.no_memory g l r run e right found runs at none

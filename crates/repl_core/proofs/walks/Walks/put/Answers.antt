@@ -8,6 +8,6 @@ use Rattle.repl_core.proofs.walks.Walks.put.Goals as goal
 pub returns-in-Some-clause-others : goal.returns-in-Some-clause-others
 returns-in-Some-clause-others c = λ b apart.
     let a = c.args.actor in
-    let written = c.get_mut.follows.holds (with_value c.in-Some.place.now (Some c.args.progress)) in
+    let written = c.get_mut.follows.holds (with_value c.in-Some.place.now (Some c.args.reached)) in
     let other = at-seats a b ∙ ne_eqb (seat_of a) (seat_of b) (λ e. apart (sym e)) in
     ap (option_and_then (λ place. place.value)) ((written.3 (search (rules))).2 b other)
